@@ -1,0 +1,89 @@
+// The refusals of the document, each named for what it means, with its number and its place.
+ghost use mathlib.Core.Path.{_≡_};
+ghost use Rattle.refusal.specs.Refusals.{numberOf, lineOrNode, placeOf};
+
+// The place of the first nine is a line of a column file or a node of a table.
+pub enum Refusal {
+    // 1: a line that is not 41 bytes, or a column that is no 32-bit number of the form
+    MalformedLine(u32),
+    // 2: a node number that is not the line's place
+    WrongNodeNumber(u32),
+    // 3: no line or node, more than 512, or numbers that are no multiple of three
+    WrongNodeCount(u32),
+    // 4: a kind that is not 1 to 12
+    UnknownKind(u32),
+    // 5: a used field out of range, or an unused field that is not 0
+    WrongField(u32),
+    // 6: a child that is negative, not lower, named twice, or taken before
+    WrongChild(u32),
+    // 7: no arity rule fits
+    NoArityRule(u32),
+    // 8: inputs or outputs above 32
+    TooWide(u32),
+    // 9: a node other than the last that is nobody's child
+    LooseNode(u32),
+    // 10: more than 2,048 instructions
+    TooManyInstructions,
+    // 11: cells that are not 0 to 16,384
+    TooManyCells,
+    // 12: a lent buffer shorter than needed
+    ShortBuffer,
+    // 13: numbers that are no flat code
+    WrongCode,
+    // 14: ticks, inputs or controls that make no block
+    WrongBlock,
+}
+
+// The document's number of a refusal.
+pub fn number(refusal: Refusal) -> u32
+    ensures { λ r. ⌜ r ≡ numberOf refusal ⌝ }
+{
+    match refusal {
+        Refusal::MalformedLine(_) => 1,
+        Refusal::WrongNodeNumber(_) => 2,
+        Refusal::WrongNodeCount(_) => 3,
+        Refusal::UnknownKind(_) => 4,
+        Refusal::WrongField(_) => 5,
+        Refusal::WrongChild(_) => 6,
+        Refusal::NoArityRule(_) => 7,
+        Refusal::TooWide(_) => 8,
+        Refusal::LooseNode(_) => 9,
+        Refusal::TooManyInstructions => 10,
+        Refusal::TooManyCells => 11,
+        Refusal::ShortBuffer => 12,
+        Refusal::WrongCode => 13,
+        Refusal::WrongBlock => 14,
+    }
+}
+
+// The line or node of a refusal, 0 where it has none.
+fn line_or_node(refusal: Refusal) -> u32
+    ensures { λ r. ⌜ r ≡ lineOrNode refusal ⌝ }
+{
+    match refusal {
+        Refusal::MalformedLine(at) => at,
+        Refusal::WrongNodeNumber(at) => at,
+        Refusal::WrongNodeCount(at) => at,
+        Refusal::UnknownKind(at) => at,
+        Refusal::WrongField(at) => at,
+        Refusal::WrongChild(at) => at,
+        Refusal::NoArityRule(at) => at,
+        Refusal::TooWide(at) => at,
+        Refusal::LooseNode(at) => at,
+        Refusal::TooManyInstructions => 0,
+        Refusal::TooManyCells => 0,
+        Refusal::ShortBuffer => 0,
+        Refusal::WrongCode => 0,
+        Refusal::WrongBlock => 0,
+    }
+}
+
+// The document's place of a refusal: its line or node, or -1.
+pub fn place(refusal: Refusal) -> i64
+    ensures { λ r. ⌜ r ≡ placeOf refusal ⌝ }
+{
+    if number(refusal) <= 9 {
+        return line_or_node(refusal) as i64;
+    }
+    -1
+}

@@ -1,0 +1,4 @@
+pub mod Choice
+pub mod Word
+pub mod Operation
+pub mod Tick
