@@ -1,5 +1,6 @@
 -- "A sample is a 32-bit two's complement whole number." A word is the number of its bits, from 0 to 2^32 - 1.
 use Prim.Native.Nat.{ℕ, suc, _-_, _%_, _^_, min}
+use mathlib.Core.Bool.{Bool, true, false}
 use lib.Dec.{ltb}
 use lib.IntN.{ℤ, pos, negsuc}
 use Rattle.word.specs.Choice.{pick}
@@ -21,3 +22,8 @@ within d (negsuc n) = 0
 -- the amount A of a delay of at most d, from its second input
 unfoldable pub clamp : ℕ → ℕ → ℕ
 clamp amount d = within d (value amount)
+
+-- the word of a magnitude with its sign
+abbrev pub withSign : Bool → ℕ → ℕ
+withSign true m = m
+withSign false m = (2 ^ 32 - m) % 2 ^ 32
