@@ -1,0 +1,4 @@
+pub mod Paths
+pub mod Sizes
+pub mod Times
+pub mod Exact

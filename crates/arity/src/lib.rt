@@ -1,0 +1,1 @@
+// The arity of circuits: definitions and laws.
