@@ -1,3 +1,4 @@
 pub mod Lists
 pub mod Low
 pub mod Forms
+pub mod Clocks

@@ -1,0 +1,97 @@
+-- Ondemand in the letters of source document 002: a body sees x↓h, an ondemand gives y↑h, and nested clocks combine by ⊗.
+use Prim.Native.Nat.{ℕ, zero, suc, _+_, _*_, _≤_, _<_}
+use mathlib.Core.Path.{_≡_, refl, sym, ap, ap₂, _∙_}
+use mathlib.Core.Bool.{Bool, true, false}
+use mathlib.Core.List.{List, [], _∷_}
+use native.Mathlib.Omega.{arith}
+use native.Mathlib.Numerals.{add-one}
+use native.Mathlib.Nat.{add-zero}
+use lib.IntN.{ℤ, pos, predℤ}
+use Rattle.word.specs.Choice.{pick, _and_, bit}
+use Rattle.word.specs.Operation.{demand}
+use Rattle.word.specs.Tick.{Beam, Tick, tick, headOr, zeros}
+use Rattle.word.proofs.Clocks.{demand-product}
+use Rattle.arity.specs.Tree.{Tree, outs}
+use Rattle.arity.specs.Tree.Tree.{ondemand}
+use Rattle.signal.specs.Signal.{History, Processor, signal, demands, demanded, hold}
+use Rattle.signal.specs.Clock.{Clock, at, star, demandsBefore, plus, down, up, _⊗_, upTo, ticks, clocked}
+use Rattle.signal.proofs.Causal.{Causal, causal, hold-next}
+use Rattle.signal.proofs.Star.{star-at, demanded-at, plus-is, plus-at}
+
+-- the inputs that follow a clock, seen from inside: x↓h and u↓h, where h is known for n ticks
+module _ (n : ℕ) (h : Clock) (x u : ℕ → Beam) where
+  abbrev pub inside : ℕ → History
+  inside k = ticks k (down n h x) (down n h u)
+
+  -- "what a body sees is x↓h": its own history is that of the inputs and controls as they are at the demands
+  pub body-sees : (t : ℕ) → t ≤ n → demands (clocked t h x u) ≡ inside (demandsBefore h t)
+  unfolding upTo demandsBefore
+  body-sees zero l = refl
+  body-sees (suc t) l = go (demand (h t)) refl (body-sees t (omega arith))
+    where
+      go : (d : Bool) → demand (h t) ≡ d → demands (clocked t h x u) ≡ inside (demandsBefore h t)
+          → pick (demand (h t)) (tick (x t) (u t) ∷ demands (clocked t h x u)) (demands (clocked t h x u)) ≡ inside (demandsBefore h t + bit (demand (h t)))
+      go true e ih = rw (e, add-one) (ap₂ (λ (s : ℕ) (p : History). tick (x s) (u s) ∷ p) (sym (star-at n h t l e)) ih)
+      go false e ih = rw (e, add-zero) ih
+
+-- the outputs of a processor at its own time t
+abbrev pub outputs : Processor → (ℕ → History) → ℕ → Beam
+outputs p past t = headOr [] (p (past (suc t)))
+
+-- what is held, in terms of how many outputs there are
+latest-of : (p : Processor) → Causal p → (m : ℕ) (f : ℕ → Tick) (k : ℕ) → headOr (zeros m) (p (upTo k f)) ≡ at (zeros m) (outputs p (λ j. upTo j f)) (predℤ (pos k))
+unfolding upTo
+latest-of p c m f zero = rw (c .empty)
+latest-of p c m f (suc k) = rw (c .next (f k) (upTo k f))
+
+module _ (n : ℕ) (h : Clock) (x u : ℕ → Beam) (i : ℕ) (b : Tree) where
+  -- y: the outputs of the body over x↓h
+  abbrev pub body-outputs : ℕ → Beam
+  body-outputs = outputs (signal b) (inside n h x u)
+
+  -- "what ondemand gives is y↑h"
+  pub ondemand-gives : (t : ℕ) → t ≤ n → signal (ondemand i b) (clocked t h x u) ≡ upTo t (up (zeros (outs b)) h body-outputs)
+  unfolding signal upTo
+  ondemand-gives zero l = refl
+  ondemand-gives (suc t) l =
+      hold-next (signal b) (causal b) (outs b) (tick (h t ∷ x t) (u t)) (clocked t h x u)
+      ∙ ap₂ {C = List Beam} _∷_
+      (ap (λ (p : History). headOr (zeros (outs b)) (signal b p)) (body-sees n h x u (suc t) l)
+      ∙ latest-of (signal b) (causal b) (outs b) (λ j. tick (down n h x j) (down n h u j)) (demandsBefore h (suc t))
+      ∙ ap (at (zeros (outs b)) body-outputs) (sym (plus-is h t)))
+      (ondemand-gives t (omega arith))
+
+-- "↑h : ↓h is the identity function", at the times of the body
+pub up-down : {A : Type 0} (n : ℕ) (h : Clock) (nought : A) (y : ℕ → A) (t : ℕ) → t < demandsBefore h n → down n h (up nought h y) t ≡ y t
+up-down n h nought y t l =
+    let (s, a, e, c) = demanded-at n h n t (omega arith) l in
+    let q : star n h t ≡ s = ap (star n h) (sym c) ∙ star-at n h s a e in
+    rw (q, plus-at h s e, c)
+
+-- two clocks: the outer h₁, and the inner k as it is outside; inside h₁ that is k↓h₁
+module _ (n : ℕ) (h₁ k : Clock) (x u : ℕ → Beam) where
+  abbrev nested : ℕ → History
+  nested t = clocked t h₁ (λ s. k s ∷ x s) u
+
+  abbrev combined : Clock
+  combined = down n h₁ k ⊗ h₁
+
+  -- "for a request to reach P it is necessary to have h₁(t) and h₀(h₁+(t)) at 1"
+  reaches : (t : ℕ) → t < n → demand (combined t) ≡ demand (h₁ t) and demand (k t)
+  reaches t l = demand-product (h₁ t) (up 0 h₁ (down n h₁ k) t) ∙ go (demand (h₁ t)) refl
+    where
+      go : (d : Bool) → demand (h₁ t) ≡ d → d and demand (up 0 h₁ (down n h₁ k) t) ≡ d and demand (k t)
+      go true e = rw (plus-at h₁ t e, star-at n h₁ t l e)
+      go false e = refl
+
+  demands-twice : (t : ℕ) → t ≤ n → demands (demands (nested t)) ≡ demands (clocked t combined x u)
+  unfolding upTo
+  demands-twice zero l = refl
+  demands-twice (suc t) l = rw (reaches t l) (go (demand (h₁ t)) (demand (k t)) refl (demands-twice t (omega arith)))
+    where
+      go : (d e : Bool) → demand (k t) ≡ e → demands (demands (nested t)) ≡ demands (clocked t combined x u)
+          → demands (pick d (tick (k t ∷ x t) (u t) ∷ demands (nested t)) (demands (nested t)))
+          ≡ pick (d and e) (tick (x t) (u t) ∷ demands (clocked t combined x u)) (demands (clocked t combined x u))
+      go true true q ih = rw q (ap {B = History} (_∷_ (tick (x t) (u t))) ih)
+      go true false q ih = rw q ih
+      go false e q ih = ih

@@ -1,0 +1,72 @@
+-- A tick without demand: nothing in an ondemand's body changes, and what is held is given again.
+use Prim.Native.Nat.{ℕ}
+use mathlib.Core.Path.{_≡_, refl, sym, ap, _∙_}
+use mathlib.Core.Bool.{Bool, true, false}
+use mathlib.Core.Logic.{inl, inr}
+use mathlib.Core.List.{[], _∷_}
+use native.Mathlib.Omega.{arith}
+use lib.ListN.{length}
+use Rattle.word.specs.Choice.{pick}
+use Rattle.word.specs.Tick.{Beam, Tick, tick, headOr, tailOf, zeros}
+use Rattle.arity.specs.Tree.{Tree, outs}
+use Rattle.arity.specs.Tree.Tree.{ondemand}
+use Rattle.arity.specs.Nodes.{Numbered, Distinct, subtree}
+use Rattle.arity.proofs.Paths.{body-not-root, subtree-distinct}
+use Rattle.signal.specs.Signal.{History, signal, demanded, demands}
+use Rattle.signal.specs.History.{own, NoDemand}
+use Rattle.signal.specs.Contents.{contents}
+use Rattle.signal.proofs.Causal.{causal}
+use Rattle.signal.proofs.Own.{Grows, own-grows, own-through}
+
+demands-stay : (h h′ : History) → Grows h h′ → length (demands h′) ≡ length (demands h) → demands h′ ≡ demands h
+demands-stay h h′ (inl e) l = ap demands e
+demands-stay h h′ (inr (g, e)) l = ap demands e ∙ go (demanded g) (ap length (sym (ap demands e)) ∙ l)
+  where
+    go : (d : Bool) → length (pick d (tick (tailOf (g .inputs)) (g .controls) ∷ demands h) (demands h)) ≡ length (demands h)
+        → pick d (tick (tailOf (g .inputs)) (g .controls) ∷ demands h) (demands h) ≡ demands h
+    go true k = absurd (omega arith)
+    go false k = refl
+
+-- node i of t is an ondemand with the body b
+module _ (t b : Tree) (d : Distinct t) (i : ℕ) (m : Numbered t i) (s : subtree t i ≡ ondemand i b) where
+  body-own : (h : History) (j : ℕ) → Numbered b j → own t h j ≡ own b (demands (own t h i)) j
+  unfolding own Numbered
+  body-own h j n =
+      own-through t d h i m j (rw s (inr n))
+      ∙ rw (s, body-not-root i j b (rw s at (subtree-distinct t d i m)) n)
+
+  -- what the ondemand holds after a history, and what it gives at its latest tick
+  abbrev latestDemand : History → Beam
+  latestDemand h = headOr (zeros (outs b)) (signal b h)
+
+  holds : (h : History) → contents (subtree t i) h ≡ latestDemand (demands h)
+  unfolding contents
+  holds h = rw s
+
+  gives : (g : Tick) (h : History) → headOr [] (signal (subtree t i) (g ∷ h)) ≡ latestDemand (demands (g ∷ h))
+  unfolding signal
+  gives g h = rw s
+
+  none-yet : (h : History) → length h ≡ 0 → latestDemand h ≡ zeros (outs b)
+  none-yet [] e = rw (causal b .empty)
+  none-yet (f ∷ h) e = absurd (omega arith)
+
+  -- what the tick f leaves as it was, where it brings no demand
+  pub record Quiet (f : Tick) (h : History) : Type 0 where
+    -- the cells of each node of the body
+    pub body : (j : ℕ) → Numbered b j → contents (subtree t j) (own t (f ∷ h) j) ≡ contents (subtree t j) (own t h j)
+    -- the outputs held in the ondemand's cells
+    pub held : contents (subtree t i) (own t (f ∷ h) i) ≡ contents (subtree t i) (own t h i)
+    -- its outputs, where the tick is one of its own, are those held, and 0 where there was no demand yet
+    pub again : (g : Tick) → own t (f ∷ h) i ≡ g ∷ own t h i → headOr [] (signal (subtree t i) (own t (f ∷ h) i)) ≡ contents (subtree t i) (own t h i)
+    pub before : length (demands (own t h i)) ≡ 0 → contents (subtree t i) (own t h i) ≡ zeros (outs b)
+
+  pub quiet : (f : Tick) (h : History) → NoDemand t i f h → Quiet f h
+  quiet f h q =
+      let e : demands (own t (f ∷ h) i) ≡ demands (own t h i) = demands-stay (own t h i) (own t (f ∷ h) i) (own-grows t f h i) q in
+      record {
+        body = λ j n. ap (contents (subtree t j)) (body-own (f ∷ h) j n ∙ ap (λ x. own b x j) e ∙ sym (body-own h j n));
+        held = holds (own t (f ∷ h) i) ∙ ap latestDemand e ∙ sym (holds (own t h i));
+        again = λ g k. ap (λ x. headOr [] (signal (subtree t i) x)) k ∙ gives g (own t h i) ∙ ap latestDemand (sym (ap demands k) ∙ e) ∙ sym (holds (own t h i));
+        before = λ l. holds (own t h i) ∙ none-yet (demands (own t h i)) l;
+      }

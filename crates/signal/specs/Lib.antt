@@ -1,0 +1,5 @@
+pub mod Signal
+pub mod History
+pub mod Contents
+pub mod Clock
+pub mod Samples
