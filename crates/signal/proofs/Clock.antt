@@ -38,6 +38,12 @@ module _ (n : ℕ) (h : Clock) (x u : ℕ → Beam) where
 abbrev pub outputs : Processor → (ℕ → History) → ℕ → Beam
 outputs p past t = headOr [] (p (past (suc t)))
 
+-- an ondemand's outputs at its latest tick, and before it
+gives-next : (i : ℕ) (b : Tree) (f : Tick) (past : History)
+    → signal (ondemand i b) (f ∷ past) ≡ headOr (zeros (outs b)) (signal b (demands (f ∷ past))) ∷ signal (ondemand i b) past
+unfolding signal
+gives-next i b f past = hold-next (signal b) (causal b) (outs b) f past
+
 -- what is held, in terms of how many outputs there are
 latest-of : (p : Processor) → Causal p → (m : ℕ) (f : ℕ → Tick) (k : ℕ) → headOr (zeros m) (p (upTo k f)) ≡ at (zeros m) (outputs p (λ j. upTo j f)) (predℤ (pos k))
 unfolding upTo
@@ -54,7 +60,7 @@ module _ (n : ℕ) (h : Clock) (x u : ℕ → Beam) (i : ℕ) (b : Tree) where
   unfolding signal upTo
   ondemand-gives zero l = refl
   ondemand-gives (suc t) l =
-      hold-next (signal b) (causal b) (outs b) (tick (h t ∷ x t) (u t)) (clocked t h x u)
+      gives-next i b (tick (h t ∷ x t) (u t)) (clocked t h x u)
       ∙ ap₂ {C = List Beam} _∷_
       (ap (λ (p : History). headOr (zeros (outs b)) (signal b p)) (body-sees n h x u (suc t) l)
       ∙ latest-of (signal b) (causal b) (outs b) (λ j. tick (down n h x j) (down n h u j)) (demandsBefore h (suc t))
@@ -95,3 +101,20 @@ module _ (n : ℕ) (h₁ k : Clock) (x u : ℕ → Beam) where
       go true true q ih = rw q (ap {B = History} (_∷_ (tick (x t) (u t))) ih)
       go true false q ih = rw q ih
       go false e q ih = ih
+
+  -- "(P↓h₀)↓h₁ = P↓(h₀⊗h₁)", h₀ being the inner clock as it is inside h₁
+  module _ (i j : ℕ) (b : Tree) where
+    held-once : (d : History) → headOr (zeros (outs b)) (signal (ondemand j b) d) ≡ headOr (zeros (outs b)) (signal b (demands d))
+    unfolding signal
+    held-once [] = rw (causal b .empty)
+    held-once (f ∷ d) = refl
+
+    pub clocks-combine : (t : ℕ) → t ≤ n → signal (ondemand i (ondemand j b)) (nested t) ≡ signal (ondemand i b) (clocked t combined x u)
+    unfolding upTo outs
+    clocks-combine zero l = unfold signal in refl
+    clocks-combine (suc t) l =
+        gives-next i (ondemand j b) (tick (h₁ t ∷ k t ∷ x t) (u t)) (nested t)
+        ∙ ap₂ {C = List Beam} _∷_
+        (held-once (demands (nested (suc t))) ∙ ap (λ (d : History). headOr (zeros (outs b)) (signal b d)) (demands-twice (suc t) l))
+        (clocks-combine t (omega arith))
+        ∙ sym (gives-next i b (tick (combined t ∷ x t) (u t)) (clocked t combined x u))

@@ -1,6 +1,8 @@
 pub mod Causal
 pub mod Own
 pub mod Quiet
+pub mod Words
 pub mod Star
 pub mod Clock
+pub mod ClockExamples
 pub mod Bench

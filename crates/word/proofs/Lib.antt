@@ -1,4 +1,5 @@
 pub mod Lists
+pub mod Each
 pub mod Low
 pub mod Forms
 pub mod Clocks

@@ -1,0 +1,45 @@
+-- What holds of each element of a list, and words.
+use Prim.Native.Nat.{ℕ, zero, suc, _<_, _^_}
+use mathlib.Core.List.{List, [], _∷_, _++_, map}
+use lib.Dec.{lit<}
+use lib.ListN.{getD, take, drop, replicate}
+use Rattle.word.specs.Tick.{Each, Words, zeros, headOr, tailOf}
+
+module _ {A : Type 0} (P : A → Type 0) where
+  pub each-append : (xs ys : List A) → Each P xs → Each P ys → Each P (xs ++ ys)
+  each-append [] ys p q = q
+  each-append (x ∷ xs) ys (p, ps) q = (p, each-append xs ys ps q)
+
+  pub each-take : (n : ℕ) (xs : List A) → Each P xs → Each P (take n xs)
+  each-take zero xs p = tt
+  each-take (suc n) [] p = tt
+  each-take (suc n) (x ∷ xs) (p, ps) = (p, each-take n xs ps)
+
+  pub each-drop : (n : ℕ) (xs : List A) → Each P xs → Each P (drop n xs)
+  each-drop zero xs p = p
+  each-drop (suc n) [] p = tt
+  each-drop (suc n) (x ∷ xs) (p, ps) = each-drop n xs ps
+
+  pub each-head : (d : A) (xs : List A) → P d → Each P xs → P (headOr d xs)
+  each-head d [] q p = q
+  each-head d (x ∷ xs) q (p, ps) = p
+
+  pub each-tail : (xs : List A) → Each P xs → Each P (tailOf xs)
+  each-tail [] p = tt
+  each-tail (x ∷ xs) (p, ps) = ps
+
+  pub each-at : (d : A) (xs : List A) (k : ℕ) → P d → Each P xs → P (getD xs k d)
+  each-at d [] k q p = q
+  each-at d (x ∷ xs) zero q (p, ps) = p
+  each-at d (x ∷ xs) (suc k) q (p, ps) = each-at d xs k q ps
+
+pub each-map : {A B : Type 0} (P : A → Type 0) (Q : B → Type 0) (f : A → B) → ((a : A) → P a → Q (f a)) → (xs : List A) → Each P xs → Each Q (map f xs)
+each-map P Q f g [] p = tt
+each-map P Q f g (x ∷ xs) (p, ps) = (g x p, each-map P Q f g xs ps)
+
+pub word-at : (xs : List ℕ) (k : ℕ) → Words xs → getD xs k 0 < 2 ^ 32
+word-at xs k w = each-at (λ x. x < 2 ^ 32) 0 xs k (lit< tt) w
+
+pub words-zeros : (n : ℕ) → Words (zeros n)
+words-zeros zero = tt
+words-zeros (suc n) = (lit< tt, words-zeros n)
