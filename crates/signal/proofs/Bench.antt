@@ -1,6 +1,6 @@
 -- Every bench sample that is marked P is what its circuit means: computed once for the whole table, and the law for each entry.
 use mathlib.Core.Path.{_≡_, refl, ap}
-use mathlib.Core.List.{List, [], _∷_, map, List·Memᴰ}
+use mathlib.Core.List.{List, _∷_, map, List·Memᴰ}
 use mathlib.Core.List.List·Memᴰ.{List·Memᴰ·head, List·Memᴰ·tail}
 use Rattle.word.specs.Word.{value, low, clamp}
 use Rattle.word.specs.Operation.{add, multiply, operate, demand}

@@ -1,20 +1,20 @@
 -- Ondemand in the letters of source document 002: a body sees x↓h, an ondemand gives y↑h, and nested clocks combine by ⊗.
-use Prim.Native.Nat.{ℕ, zero, suc, _+_, _*_, _≤_, _<_}
+use Prim.Native.Nat.{ℕ, zero, suc, _+_, _≤_, _<_}
 use mathlib.Core.Path.{_≡_, refl, sym, ap, ap₂, _∙_}
 use mathlib.Core.Bool.{Bool, true, false}
 use mathlib.Core.List.{List, [], _∷_}
 use native.Mathlib.Omega.{arith}
 use native.Mathlib.Numerals.{add-one}
 use native.Mathlib.Nat.{add-zero}
-use lib.IntN.{ℤ, pos, predℤ}
+use lib.IntN.{pos, predℤ}
 use Rattle.word.specs.Choice.{pick, _and_, bit}
 use Rattle.word.specs.Operation.{demand}
 use Rattle.word.specs.Tick.{Beam, Tick, tick, headOr, zeros}
 use Rattle.word.proofs.Clocks.{demand-product}
 use Rattle.arity.specs.Tree.{Tree, outs}
 use Rattle.arity.specs.Tree.Tree.{ondemand}
-use Rattle.signal.specs.Signal.{History, Processor, signal, demands, demanded, hold}
-use Rattle.signal.specs.Clock.{Clock, at, star, demandsBefore, plus, down, up, _⊗_, upTo, ticks, clocked}
+use Rattle.signal.specs.Signal.{History, Processor, signal, demands}
+use Rattle.signal.specs.Clock.{Clock, at, star, demandsBefore, down, up, _⊗_, upTo, ticks, clocked}
 use Rattle.signal.proofs.Causal.{Causal, causal, hold-next}
 use Rattle.signal.proofs.Star.{star-at, demanded-at, plus-is, plus-at}
 

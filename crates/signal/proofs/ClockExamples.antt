@@ -1,11 +1,11 @@
 -- The worked clocks of source document 002, computed.
-use Prim.Native.Nat.{ℕ, suc}
+use Prim.Native.Nat.{ℕ}
 use mathlib.Core.Path.{_≡_, refl}
 use mathlib.Core.List.{List, [], _∷_, map}
-use lib.IntN.{ℤ, pos}
+use lib.IntN.{pos}
 use lib.ListN.{getD}
 use Rattle.word.specs.Operation.{demand}
-use Rattle.signal.specs.Clock.{Clock, least, star, demandsBefore, plus, _⊗_}
+use Rattle.signal.specs.Clock.{Clock, star, demandsBefore, plus, _⊗_}
 
 -- a clock that is written out, and 0 from then on
 abbrev clock : List ℕ → Clock

@@ -1,6 +1,6 @@
 -- h* and h+ of source document 002: h*(h+(t)) = t where there is a demand, and h+(h*(t)) = t.
 use Prim.Native.Nat.{ℕ, zero, suc, _+_, _≤_, _<_}
-use mathlib.Core.Path.{_≡_, refl, sym, ap, _∙_}
+use mathlib.Core.Path.{_≡_, refl, _∙_}
 use mathlib.Core.Bool.{Bool, true, false}
 use mathlib.Core.Logic.{_⊎_, inl, inr}
 use native.Mathlib.Omega.{arith}
@@ -10,7 +10,7 @@ use native.Mathlib.Nat.{add-zero}
 use lib.Dec.{ltb}
 use lib.IntN.{pos, predℤ, -ℤ-one}
 use borrow.Author.Tests.{lt-ltb, le-ltb}
-use Rattle.word.specs.Choice.{pick, _and_, bit}
+use Rattle.word.specs.Choice.{pick, _and_}
 use Rattle.word.specs.Operation.{demand}
 use Rattle.signal.specs.Clock.{Clock, least, star, demandsBefore, plus}
 

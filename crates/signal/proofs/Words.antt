@@ -2,10 +2,9 @@
 use Prim.Native.Nat.{ℕ, zero, suc, _+_, _-_, _/_, _<_, _^_}
 use mathlib.Core.Bool.{Bool, true, false}
 use mathlib.Core.List.{List, [], _∷_, _++_, map}
-use lib.Dec.{lit<}
 use lib.ListN.{getD, take, drop}
 use Rattle.word.specs.Choice.{pick}
-use Rattle.word.specs.Operation.{add, operate}
+use Rattle.word.specs.Operation.{add}
 use Rattle.word.specs.Word.{clamp}
 use Rattle.word.specs.Tick.{Beam, Tick, tick, headOr, tailOf, zeros, Each, Words}
 use Rattle.word.proofs.Each.{each-append, each-take, each-drop, each-head, each-tail, each-map, word-at, words-zeros}

@@ -6,7 +6,7 @@ use lib.Dec.{ltb}
 use lib.IntN.{ℤ, pos, negsuc, _-ℤ_}
 use Rattle.word.specs.Choice.{pick, _and_, bit}
 use Rattle.word.specs.Operation.{demand}
-use Rattle.word.specs.Tick.{Beam, Tick, tick}
+use Rattle.word.specs.Tick.{Beam, tick}
 use Rattle.signal.specs.Signal.{History}
 
 -- the value of a clock at each time

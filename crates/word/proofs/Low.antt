@@ -1,6 +1,6 @@
 -- The low 32 bits: one law modulo 2^32 for sums, differences and products, and what it says of words.
 use Prim.Native.Nat.{ℕ, zero, suc, _+_, _-_, _*_, _/_, _%_, _^_, _≤_, _<_}
-use mathlib.Core.Path.{_≡_, refl, sym, ap, ap₂, _∙_}
+use mathlib.Core.Path.{_≡_, refl, sym, ap, _∙_}
 use mathlib.Core.Bool.{Bool, true, false, cond}
 use native.Mathlib.Omega.{arith}
 use native.Mathlib.Nat.{mod-lt, add-comm, mul-comm, mul-assoc, mul-zero, add-mul, mul-add, div-add-mod'}

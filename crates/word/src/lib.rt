@@ -121,3 +121,10 @@ pub fn demand(clock: u32) -> bool
 {
     clock == 1
 }
+
+// A word as an index.
+pub fn index(word: u32) -> usize
+    ensures { λ r. ⌜ r ≡ word ⌝ }
+{
+    word as usize
+}

@@ -1,6 +1,6 @@
 -- `refusal::place` meets its contract. A line or node of 32 bits lies in the lower half of the numbers of 64.
-use mathlib.Core.Path.{_≡_, _∙_, ap}
-use lib.IntN.{ℤ, pos}
+use mathlib.Core.Path.{_∙_, ap}
+use lib.IntN.{pos}
 use native.Mathlib.Omega.{arith}
 use borrow.Author.Needs.{needs}
 use borrow.Author.Tests.{le-leb, lt-leb}

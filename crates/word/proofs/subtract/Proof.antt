@@ -1,5 +1,4 @@
 -- `word::subtract` meets its contract.
-use mathlib.Core.Path.{sym, _∙_}
 use native.Mathlib.Omega.{arith}
 use borrow.Author.Needs.{needs}
 use Rattle.word.specs.Operation.{subtract}

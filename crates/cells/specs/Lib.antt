@@ -1,0 +1,4 @@
+pub mod Cells
+pub mod Delay
+pub mod Load
+pub mod Block
