@@ -1,0 +1,104 @@
+-- How many outputs a tick of the walker gives, and that the number of cells stays.
+use Prim.Native.Nat.{ℕ, _+_, zero, suc, _-_, _*_, _/_}
+use mathlib.Core.Path.{_≡_, refl, sym, ap, ap₂, _∙_}
+use mathlib.Core.Bool.{Bool, true, false}
+use mathlib.Core.List.{List, _++_}
+use native.Mathlib.Omega.{arith}
+use native.Mathlib.Nat.{zero-mul}
+use lib.ListN.{length, getD, drop, take, length-append, length-drop}
+use lib.Seq.{length-sets, length-take-le}
+use Rattle.word.specs.Choice.{pick}
+use Rattle.word.specs.Tick.{Tick, tick, tailOf}
+use Rattle.cells.specs.Cells.{part, store}
+use Rattle.cells.proofs.Parts.{part-length, length-moved}
+use Rattle.arity.specs.Tree.{Tree, ins, outs}
+use Rattle.arity.specs.Tree.Tree.{leaf, join, ondemand}
+use Rattle.arity.specs.Tree.Primitive.{number, control, operation, delay, cable, cut}
+use Rattle.arity.specs.Tree.Composition.{sequence, parallel, split, merge, recursion}
+use Rattle.arity.specs.WellFormed.{WellFormed}
+use Rattle.arity.proofs.Times.{times-whole}
+use Rattle.signal.specs.Signal.{copies, fill, sums, sumsFrom, demanded}
+use Rattle.walker.specs.Step.{step}
+
+pub length-copies : (k : ℕ) (xs : List ℕ) → length (copies k xs) ≡ k * length xs
+length-copies zero xs = sym (zero-mul (length xs))
+length-copies (suc k) xs = length-append xs (copies k xs) ∙ omega (arith, length-copies k xs)
+
+pub length-sums : (n k b i : ℕ) (xs : List ℕ) → length (sumsFrom n k b i xs) ≡ n
+length-sums zero k b i xs = refl
+length-sums (suc n) k b i xs = ap suc (length-sums n k b (suc i) xs)
+
+-- a split fills its right side
+pub length-fill : (n b : ℕ) (xs : List ℕ) → n / b * b ≡ n → length xs ≡ b → length (fill n b xs) ≡ n
+length-fill n b xs w e = length-copies (n / b) xs ∙ rw e w
+
+held-cells : (d : Bool) (cs cs′ : List ℕ) → length cs′ ≡ length cs → length (pick d cs′ cs) ≡ length cs
+held-cells true cs cs′ e = e
+held-cells false cs cs′ e = refl
+
+pub step-cells : (base : ℕ → ℕ) (t : Tree) (f : Tick) (cs : List ℕ) → length ((step base t f cs) .cells) ≡ length cs
+unfolding step
+step-cells base (leaf i (number v)) f cs = refl
+step-cells base (leaf i (control s)) f cs = refl
+step-cells base (leaf i (operation o)) f cs = refl
+step-cells base (leaf i (delay d)) f cs = length-moved (base i) d (getD (f .inputs) 0 0) cs
+step-cells base (leaf i cable) f cs = refl
+step-cells base (leaf i cut) f cs = refl
+step-cells base (join i sequence l r) f cs =
+    let a = step base l f cs in
+    step-cells base r (tick (a .outputs) (f .controls)) (a .cells) ∙ step-cells base l f cs
+step-cells base (join i parallel l r) f cs =
+    let g = tick (take (ins l) (f .inputs)) (f .controls) in
+    step-cells base r (tick (drop (ins l) (f .inputs)) (f .controls)) ((step base l g cs) .cells) ∙ step-cells base l g cs
+step-cells base (join i split l r) f cs =
+    let a = step base l f cs in
+    step-cells base r (tick (fill (ins r) (outs l) (a .outputs)) (f .controls)) (a .cells) ∙ step-cells base l f cs
+step-cells base (join i merge l r) f cs =
+    let a = step base l f cs in
+    step-cells base r (tick (sums (outs l) (ins r) (a .outputs)) (f .controls)) (a .cells) ∙ step-cells base l f cs
+step-cells base (join i recursion l r) f cs =
+    let g = tick (part (base i) (ins r) cs) (f .controls) in
+    let a = step base r g cs in
+    let h = tick (a .outputs ++ f .inputs) (f .controls) in
+    let b = step base l h (a .cells) in
+    length-sets (b .cells) (base i) (take (ins r) (b .outputs)) ∙ step-cells base l h (a .cells) ∙ step-cells base r g cs
+step-cells base (ondemand i b) f cs =
+    let g = tick (tailOf (f .inputs)) (f .controls) in
+    let a = step base b g cs in
+    held-cells (demanded f) cs (store (base i) (a .outputs) (a .cells)) (length-sets (a .cells) (base i) (a .outputs) ∙ step-cells base b g cs)
+
+pub step-outs : (base : ℕ → ℕ) (t : Tree) (f : Tick) (cs : List ℕ) → WellFormed t → length (f .inputs) ≡ ins t → length ((step base t f cs) .outputs) ≡ outs t
+unfolding step WellFormed
+step-outs base (leaf i (number v)) f cs w e = refl
+step-outs base (leaf i (control s)) f cs w e = refl
+step-outs base (leaf i (operation o)) f cs w e = refl
+step-outs base (leaf i (delay d)) f cs w e = refl
+step-outs base (leaf i cable) f cs w e = refl
+step-outs base (leaf i cut) f cs w e = refl
+step-outs base (join i sequence l r) f cs w e =
+    let a = step base l f cs in
+    step-outs base r (tick (a .outputs) (f .controls)) (a .cells) (w .1) (step-outs base l f cs (w .0) e ∙ w .2)
+step-outs base (join i parallel l r) f cs w e =
+    let x = f .inputs in
+    let g = tick (take (ins l) x) (f .controls) in
+    let a = step base l g cs in
+    let h = tick (drop (ins l) x) (f .controls) in
+    let p : length (take (ins l) x) ≡ ins l = length-take-le (ins l) x (omega arith) in
+    let q : length (drop (ins l) x) ≡ ins r = omega (arith, length-drop (ins l) x) in
+    length-append (a .outputs) ((step base r h (a .cells)) .outputs) ∙ ap₂ _+_ (step-outs base l g cs (w .0) p) (step-outs base r h (a .cells) (w .1) q)
+step-outs base (join i split l r) f cs w e =
+    let a = step base l f cs in
+    step-outs base r (tick (fill (ins r) (outs l) (a .outputs)) (f .controls)) (a .cells) (w .1)
+    (length-fill (ins r) (outs l) (a .outputs) (times-whole (outs l) (ins r) (w .2)) (step-outs base l f cs (w .0) e))
+step-outs base (join i merge l r) f cs w e =
+    let a = step base l f cs in
+    step-outs base r (tick (sums (outs l) (ins r) (a .outputs)) (f .controls)) (a .cells) (w .1) (length-sums (ins r) (outs l / ins r - 1) (ins r) 0 (a .outputs))
+step-outs base (join i recursion l r) f cs w e =
+    let g = tick (part (base i) (ins r) cs) (f .controls) in
+    let a = step base r g cs in
+    let p : length (a .outputs) ≡ outs r = step-outs base r g cs (w .1) (part-length (base i) (ins r) cs) in
+    step-outs base l (tick (a .outputs ++ f .inputs) (f .controls)) (a .cells) (w .0)
+    (omega (arith, length-append (a .outputs) (f .inputs)))
+step-outs base (ondemand i b) f cs w e =
+    let a = step base b (tick (tailOf (f .inputs)) (f .controls)) cs in
+    part-length (base i) (outs b) (pick (demanded f) (store (base i) (a .outputs) (a .cells)) cs)
