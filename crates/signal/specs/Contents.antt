@@ -1,4 +1,4 @@
--- What the cells hold after a history, from cleared cells.
+-- What the cells hold "after a history, from cleared cells".
 use Prim.Native.Nat.{ℕ, zero, suc, _%_}
 use mathlib.Core.List.{List, [], _∷_, _++_}
 use lib.ListN.{length, getD, take}
@@ -13,7 +13,7 @@ use Rattle.arity.specs.Nodes.{subtree}
 use Rattle.signal.specs.Signal.{History, signal, demands}
 use Rattle.signal.specs.History.{own}
 
--- the first input at the latest tick whose number modulo d is j; 0 where there is none
+-- "its first input at the latest own tick whose number modulo D is j"; "where there was no such tick, 0 stands"
 unfoldable pub latest : ℕ → ℕ → History → ℕ
 latest d j [] = 0
 latest d j (f ∷ past) = pick (eqb (length past % d) j) (getD (f .inputs) 0 0) (latest d j past)
@@ -24,13 +24,14 @@ unfolding latest
 ring d zero h = []
 ring d (suc n) h = ring d n h ++ (latest d n h ∷ [])
 
--- a delay of d: the position, then the ring
+-- "a delay with k own ticks so far has position k modulo D", then its ring; "with D = 0 its cell is 0"
 unfoldable pub delayCells : ℕ → History → List ℕ
 unfolding ring
 delayCells zero h = 0 ∷ []
 delayCells (suc d) h = length h % suc d ∷ ring (suc d) (suc d) h
 
--- the cells of the root of a tree after its own history h
+-- the cells of the root of a tree after its own history h. "A recursion's cells hold its first q outputs at its latest own tick, an ondemand's its body's
+-- outputs at the latest demand."
 unfoldable pub contents : Tree → History → List ℕ
 unfolding signal ins outs delayCells
 contents (leaf i (number v)) h = []

@@ -1,4 +1,4 @@
--- The own history of each node: which ticks it has, and what its inputs are at them.
+-- The own history of each node: "an ondemand's body has the demands among the ondemand's own, every other child its parent's".
 use Prim.Native.Nat.{ℕ}
 use mathlib.Core.Path.{_≡_}
 use mathlib.Core.List.{[], _∷_, map}
@@ -46,6 +46,6 @@ own (leaf i p) h j = h
 own (join i c l r) h j = pick (eqb i j) h (pick (has l j) (own l (leftHistory c l r h) j) (own r (rightHistory c l r h) j))
 own (ondemand i b) h j = pick (eqb i j) h (own b (demands h) j)
 
--- at the tick f no demand reaches the body of the ondemand i: the body has no more own ticks after it than before
+-- at the tick f no demand reaches the body of the ondemand i: "a demand reaches a body exactly at its own ticks", and the body has no more after f than before
 abbrev pub NoDemand : Tree → ℕ → Tick → History → Type 0
 NoDemand t i f h = length (demands (own t (f ∷ h) i)) ≡ length (demands (own t h i))

@@ -1,4 +1,4 @@
--- The meaning: what a circuit gives at each tick of a history, the latest tick first.
+-- The meaning: "the circuit's outputs at each tick of the history". Histories and outputs are lists with the latest tick first.
 use Prim.Native.Nat.{ℕ, zero, suc, _+_, _-_, _/_}
 use mathlib.Core.Bool.{Bool}
 use mathlib.Core.List.{List, [], _∷_, _++_, map, reverse, flatten}
@@ -12,11 +12,11 @@ use Rattle.arity.specs.Tree.Tree.{leaf, join, ondemand}
 use Rattle.arity.specs.Tree.Primitive.{number, control, operation, delay, cable, cut}
 use Rattle.arity.specs.Tree.Composition.{sequence, parallel, split, merge, recursion}
 
--- ticks, the latest first
+-- "A history is a list of ticks from 0, each with the circuit's inputs and 16 controls."
 abbrev pub History : Type 0
 History = List Tick
 
--- the outputs at each tick of a history
+-- what a circuit means: its outputs at each tick of a history
 abbrev pub Processor : Type 0
 Processor = History → List Beam
 
@@ -32,14 +32,17 @@ wire (f ∷ h) ys = tick (headOr [] ys) (f .controls) ∷ wire h (tailOf ys)
 abbrev pub rewire : (Beam → Beam) → History → History
 rewire g h = map (λ (f : Tick). tick (g (f .inputs)) (f .controls)) h
 
+-- "In a parallel the left takes the first inputs and gives the first outputs."
 abbrev pub beside : List Beam → List Beam → List Beam
 beside [] ys = []
 beside (x ∷ xs) ys = (x ++ headOr [] ys) ∷ beside xs (tailOf ys)
 
--- the first input `a` ticks before the latest; 0 before tick 0
+-- the first input as it was a ticks ago; "every signal is 0 before tick 0"
 abbrev pub ago : History → ℕ → ℕ
 ago h a = getD (headOr [] (drop a (inputsOf h))) 0 0
 
+-- "A number gives its value, a control its slot's, a cable its input, a cut nothing." "A delay gives its first input as it was A ticks ago, A being
+-- the second input now", clamped.
 unfoldable pub primitive : Primitive → Tick → History → Beam
 unfolding operate
 primitive (number v) f past = v ∷ []
@@ -54,16 +57,16 @@ unfolding primitive
 primitives p [] = []
 primitives p (f ∷ past) = primitive p f past ∷ primitives p past
 
--- split: the whole left beam repeated
+-- "Split repeats the whole left beam k times."
 abbrev pub copies : ℕ → Beam → Beam
 copies zero xs = []
 copies (suc k) xs = xs ++ copies k xs
 
--- a beam of b repeated to fill n inputs
+-- a beam of b signals repeated to fill n inputs
 abbrev pub fill : ℕ → ℕ → Beam → Beam
 fill n b xs = copies (n / b) xs
 
--- merge: acc, and then k more terms of xs, b apart, the first at `at`
+-- a sum acc, and k more terms of xs added to it, b apart, the first at `at`
 abbrev pub sumFrom : (k b acc at : ℕ) → Beam → ℕ
 sumFrom zero b acc at xs = acc
 sumFrom (suc k) b acc at xs = sumFrom k b (add acc (getD xs at 0)) (at + b) xs
@@ -73,34 +76,37 @@ abbrev pub sumsFrom : (n k b i : ℕ) → Beam → Beam
 sumsFrom zero k b i xs = []
 sumsFrom (suc n) k b i xs = sumFrom k b (getD xs i 0) (i + b) xs ∷ sumsFrom n k b (suc i) xs
 
--- m outputs onto b inputs: input i is the sum of outputs i, i+b, i+2b, .., from the first on
+-- "Merge adds output i, i+b, i+2b and so on": m outputs onto b inputs
 abbrev pub sums : ℕ → ℕ → Beam → Beam
 sums m b xs = sumsFrom b (m / b - 1) b 0 xs
 
--- recursion: the first q of each beam of the past, one tick late; zeros at tick 0
+-- "its first q outputs, one tick late": at each tick those of the tick before, zeros at tick 0
 abbrev pub late : ℕ → List Beam → List Beam
 late q past = map (take q) past ++ (zeros q ∷ [])
 
--- the outputs of a recursion: its first q outputs, late, through the right, before the inputs, through the left
+-- "Recursion feeds its first q outputs, one tick late, through the right side into the first r inputs of the left, whose other inputs and all outputs
+-- are the node's."
 unfoldable pub loop : Processor → Processor → ℕ → Processor
 loop left right q [] = []
 loop left right q (f ∷ past) =
     let z = right (wire (f ∷ past) (late q (loop left right q past))) in
     left (wire (f ∷ past) (beside z (inputsOf (f ∷ past))))
 
+-- "Ondemand takes its clock as first input."
 abbrev pub demanded : Tick → Bool
 demanded f = demand (headOr 0 (f .inputs))
 
--- the own history of an ondemand's body: the ticks at which there is a demand, without their clock
+-- "an ondemand's body has the demands among the ondemand's own" ticks; "it sees inputs and controls as they are at the demand"
 abbrev pub demands : History → History
 demands [] = []
 demands (f ∷ h) = pick (demanded f) (tick (tailOf (f .inputs)) (f .controls) ∷ demands h) (demands h)
 
--- outputs of the demands, each held until the next; zeros before the first
+-- "Its outputs hold between demands and are 0 before the first."
 abbrev pub hold : ℕ → History → List Beam → List Beam
 hold m [] ys = []
 hold m (f ∷ h) ys = headOr (zeros m) ys ∷ hold m h (pick (demanded f) (tailOf ys) ys)
 
+-- "A sequence feeds the left's outputs to the right, split and merge the repeated or added beam."
 unfoldable pub signal : Tree → Processor
 unfolding primitives loop ins outs
 signal (leaf i p) h = primitives p h

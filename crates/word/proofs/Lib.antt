@@ -2,4 +2,5 @@ pub mod Lists
 pub mod Each
 pub mod Low
 pub mod Forms
+pub mod Exceptions
 pub mod Clocks
