@@ -2,3 +2,18 @@ pub mod Paths
 pub mod Sizes
 pub mod Times
 pub mod Exact
+mod Tests
+mod ByKind
+mod Taken
+mod Trees
+mod Right
+mod Once
+mod Parts
+mod Bounds
+mod Walk
+pub mod Acceptance
+pub mod Promise
+mod Joint
+mod Judging
+mod Next
+mod End

@@ -32,7 +32,7 @@ has-number (ondemand i b) j (inr m) = go (eqb i j) (has-number b j m)
     go true e = refl
     go false e = e
 
-number-has : (t : Tree) (j : ℕ) → has t j ≡ true → Numbered t j
+pub number-has : (t : Tree) (j : ℕ) → has t j ≡ true → Numbered t j
 unfolding Numbered has
 number-has (leaf i p) j e = eqb→eq i j (rw e tt)
 number-has (join i c l r) j e = go (eqb i j) refl (has l j) refl (number-has l j) (number-has r j) e

@@ -4,3 +4,9 @@ pub mod Rules
 pub mod WellFormed
 pub mod Nodes
 pub mod Limits
+pub mod Check
+pub mod Checked
+pub mod Counts
+pub mod Survey
+pub mod Formed
+pub mod Promise

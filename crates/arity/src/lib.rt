@@ -1,1 +1,77 @@
-// The arity of circuits: definitions and laws.
+// The arity check: which tables are circuits, and the counts of their nodes.
+mod children;
+pub mod counts;
+pub mod fields;
+mod node;
+mod rules;
+
+use children::find_loose;
+use counts::row_at;
+use node::Stepped;
+use node::step;
+use refusal::Refusal;
+ghost use mathlib.Core.Path.{_≡_};
+ghost use lib.ListN.{length};
+ghost use Rattle.arity.specs.Checked.{Checked};
+ghost use Rattle.arity.specs.Survey.{surveyed};
+
+pub enum CheckAnswer {
+    Accepted {
+        inputs: u32,
+        outputs: u32,
+        instructions: u32,
+        cells: u32,
+    },
+    Refused(Refusal),
+}
+
+// The check, which leaves in `shape` four numbers for each node up to the first refused one: inputs, outputs, instructions and first cell.
+pub fn survey(table: &[u32], shape: &mut [u32; 2048]) -> CheckAnswer
+    requires { ⌜ length (now shape) ≡ 2048 ⌝ }
+    ensures answer { λ r. ⌜ Checked (now (table .entry)) r ⌝ }
+    ensures rows { λ r. ⌜ now (shape .exit) ≡ surveyed (now (table .entry)) (now (shape .entry)) ⌝ }
+{
+    let count = table.len();
+    if count == 0 {
+        return CheckAnswer::Refused(Refusal::WrongNodeCount(0));
+    }
+    if count % 3 != 0 {
+        return CheckAnswer::Refused(Refusal::WrongNodeCount(0));
+    }
+    let n = count / 3;
+    if 512 < n {
+        return CheckAnswer::Refused(Refusal::WrongNodeCount(512));
+    }
+    let mut marks = [0u32; 512];
+    let mut cells: u32 = 0;
+    let mut i: usize = 0;
+    while i < n {
+        let stepped = step(table, shape, &mut marks, i, cells);
+        match stepped {
+            Stepped::Stop(r) => return CheckAnswer::Refused(r),
+            Stepped::Next(next) => {
+                cells = next;
+                i += 1;
+            }
+        }
+    }
+    let p = find_loose(&marks, n);
+    if p < n {
+        return CheckAnswer::Refused(Refusal::LooseNode(p as u32));
+    }
+    let last = row_at(shape, n - 1);
+    CheckAnswer::Accepted {
+        inputs: last.inputs,
+        outputs: last.outputs,
+        instructions: last.instructions,
+        cells: cells,
+    }
+}
+
+// Whether a table is a circuit, with its inputs, outputs, instructions and cells.
+pub fn check(table: &[u32]) -> CheckAnswer
+    ensures { λ r. ⌜ Checked (now (table .entry)) r ⌝ }
+{
+    let mut shape = [0u32; 2048];
+    survey(table, &mut shape)
+}

@@ -1,1 +1,2 @@
-// The walker.
+// The walker: a circuit worked tick by tick on its cells.
+pub mod wiring;

@@ -1,0 +1,183 @@
+-- A table of the stated form is accepted exactly where the published rules count inputs and outputs of each of its nodes, none above 32.
+use Prim.Native.Nat.{ℕ, suc, _%_, _≤_, _<_}
+use mathlib.Core.Path.{_≡_, refl, sym, ap, _∙_}
+use mathlib.Core.Logic.{inl, inr, _↔_}
+use mathlib.Core.Bool.{Bool, true, false, _&&_, false≢true}
+use mathlib.Core.List.{List, [], _∷_}
+use native.Mathlib.Omega.{arith}
+use native.Mathlib.Decide.{decLe, decLt}
+use lib.ListN.{length}
+use lib.Dec.{leb}
+use borrow.Author.Tests.{leb-true, eqb-true, le-leb, le-ltb, lt-ltb, eq-eqb, ne-eqb}
+use Rattle.refusal.specs.Answer.Answer.{counts}
+use Rattle.arity.specs.Tree.{ins, outs}
+use Rattle.arity.specs.Tree.Tree.{join}
+use Rattle.arity.specs.Table.{kindAt, firstAt, secondAt, nodes, tree, compositionOf}
+use Rattle.arity.specs.WellFormed.{Ruled}
+use Rattle.arity.specs.Check.{twoChildren, firstInRange, secondInRange, ruleFits, taken, refusalAt, loose, report, checked}
+use Rattle.arity.specs.Checked.{answerOf, LoosePlace, Checked}
+use Rattle.arity.specs.Formed.{Child, Children, Fields, Formed, Counted, Fitting}
+use Rattle.arity.specs.declared.CheckAnswer.{CheckAnswer}
+use Rattle.arity.specs.declared.CheckAnswer.the-variants.{Accepted, Refused}
+use Rattle.arity.proofs.Exact.{ruled, arity}
+use Rattle.arity.proofs.Tests.{and-left, and-right, known-false}
+use Rattle.arity.proofs.ByKind.{Alone, alone-of, two-of, fits-of, rule-of, rule-other}
+use Rattle.arity.proofs.ByKind.Alone.{k1, k2, k3, k4, k5, k6}
+use Rattle.arity.proofs.Taken.{taken-child, child-taken, of-children}
+use Rattle.arity.proofs.Trees.{View, view, strong}
+use Rattle.arity.proofs.Trees.View.{alone, two, one}
+use Rattle.arity.proofs.Right.{Right, right}
+use Rattle.arity.proofs.Once.{lower}
+use Rattle.arity.proofs.Walk.{Passed, has-passed, even, passes}
+
+-- the fields in range
+first-in-range : (k a b : ℕ) → 1 ≤ k → Fields k a b → firstInRange k a ≡ true
+first-in-range k a b l f = go (decLe k 6)
+  where
+    small : (k : ℕ) → Alone k → Fields k a b → firstInRange k a ≡ true
+    small k k1 f = refl
+    small k k2 f = le-leb a 15 (f .control refl)
+    small k k3 f = rw (le-leb 1 a (f .operation refl .0), le-leb a 9 (f .operation refl .1))
+    small k k4 f = le-leb a 4095 (f .delay refl)
+    small k k5 f = eq-eqb a 0 (f .cable refl)
+    small k k6 f = eq-eqb a 0 (f .cut refl)
+
+    go : Dec (k ≤ 6) → firstInRange k a ≡ true
+    go (yes h) = small k (alone-of k l h) f
+    go (no h) =
+        rw (
+          ne-eqb k 2 (λ e. omega arith),
+          ne-eqb k 3 (λ e. omega arith),
+          ne-eqb k 4 (λ e. omega arith),
+          ne-eqb k 5 (λ e. omega arith),
+          ne-eqb k 6 (λ e. omega arith),
+        )
+
+second-in-range : (k a b : ℕ) → Fields k a b → secondInRange k b ≡ true
+second-in-range k a b f = go (twoChildren k) refl
+  where
+    go : (x : Bool) → twoChildren k ≡ x → secondInRange k b ≡ true
+    go true e = rw e
+    go false e = rw e (eq-eqb b 0 (f .unused (λ l m. false≢true (sym e ∙ rw (le-leb 7 k l, le-leb k 11 m)))))
+
+pub fields-of : (k a b : ℕ) → firstInRange k a ≡ true → secondInRange k b ≡ true → Fields k a b
+fields-of k a b g h =
+    record {
+      control = λ z. leb-true a 15 (first 2 z);
+      operation = λ z. (leb-true _ _ (and-left (leb 1 a) (leb a 9) (first 3 z)), leb-true _ _ (and-right (leb 1 a) (leb a 9) (first 3 z)));
+      delay = λ z. leb-true a 4095 (first 4 z);
+      cable = λ z. eqb-true a 0 (first 5 z);
+      cut = λ z. eqb-true a 0 (first 6 z);
+      unused = λ n. eqb-true b 0 (rw (single n) at h);
+    }
+  where
+    first : (j : ℕ) → k ≡ j → firstInRange j a ≡ true
+    first j z = rw z at g
+
+    single : (7 ≤ k → k ≤ 11 → ⊥) → twoChildren k ≡ false
+    single n =
+        known-false (twoChildren k)
+        (λ q. n (leb-true _ _ (and-left (leb 7 k) (leb k 11) q)) (leb-true _ _ (and-right (leb 7 k) (leb k 11) q)))
+
+-- a table of the stated form, whose nodes have arities: no node is refused, none is loose, so the check reports its counts
+module _ (t : List ℕ) (f : Formed t) (w : Fitting t) where
+  rule-fits : (i : ℕ) → i < nodes t → ruleFits t i ≡ true
+  unfolding ruleFits Ruled
+  rule-fits i h = go (view t (nodes t) (f .children) i h)
+    where
+      go : View t i → ruleFits t i ≡ true
+      go (alone a e) = rule-other (kindAt t i) (tree t (firstAt t i)) (tree t (secondAt t i)) (λ x y. omega arith)
+      go (two a b e) =
+          let u : Ruled (tree t i) = ruled (w i h .2) .0 in
+          let v : Ruled (join i (compositionOf (kindAt t i)) (tree t (firstAt t i)) (tree t (secondAt t i))) = rw e at u in
+          rule-of (kindAt t i) _ _ (two-of (kindAt t i) a b) (v .2)
+      go (one a e) = rule-other (kindAt t i) (tree t (firstAt t i)) (tree t (secondAt t i)) (λ x y. omega arith)
+
+  not-refused : (i : ℕ) → i < nodes t → refusalAt t i ≡ 0
+  unfolding refusalAt
+  not-refused i h =
+      let r = ruled (w i h .2) in
+      rw (
+        le-leb 1 (kindAt t i) (f .kinds i h .0),
+        le-leb (kindAt t i) 12 (f .kinds i h .1),
+        first-in-range (kindAt t i) (firstAt t i) (secondAt t i) (f .kinds i h .0) (f .fields i h),
+        second-in-range (kindAt t i) (firstAt t i) (secondAt t i) (f .fields i h),
+        of-children t i (f .children i h),
+        rule-fits i h,
+        le-leb (ins (tree t i)) 32 (rw (r .1) at (w i h .3)),
+        le-leb (outs (tree t i)) 32 (rw (r .2) at (w i h .4)),
+      )
+
+  not-loose : (p : ℕ) → loose t p ≡ false
+  not-loose p = go (decLt (suc p) (nodes t))
+    where
+      go : Dec (suc p < nodes t) → loose t p ≡ false
+      go (yes h) = let a = f .attached p h in rw (lt-ltb (suc p) (nodes t) h, child-taken t (nodes t) (a .0) p (a .1) (a .2))
+      go (no h) = rw (le-ltb (suc p) (nodes t) (omega arith))
+
+  pub complete : (p : ℕ) → checked p t ≡ report t
+  complete p =
+      let l = f .least in
+      let q = f .whole in
+      passes p t (even t (λ e. omega arith) (omega arith)) (f .most) not-refused ∙ rw (not-loose p)
+
+-- an accepted table: it is of the form, and its nodes have arities
+module _ (t : List ℕ) (a b c d : ℕ) (x : Passed t a b c d) where
+  rights : (i : ℕ) → i < nodes t → Right t i
+  rights i h = right t i (x .right i h)
+
+  kids : (i : ℕ) → i < nodes t → Children t i
+  kids i h = rights i h .children
+
+  attached : (j : ℕ) → suc j < nodes t → (y : Bool) → taken t (nodes t) j ≡ y → (q : ℕ) × (q < nodes t) × Child t q j
+  attached j h true z = taken-child t (nodes t) j z
+  attached j h false z = absurd (false≢true (sym (x .tight j) ∙ rw (lt-ltb (suc j) (nodes t) h, z)))
+
+  pub formed : Formed t
+  formed =
+      record {
+        whole = x .whole;
+        least = x .least;
+        most = x .most;
+        kinds = λ i h. (rights i h .least, rights i h .most);
+        fields = λ i h. fields-of _ _ _ (rights i h .first) (rights i h .second);
+        children = kids;
+        attached = λ j h. attached j h (taken t (nodes t) j) refl;
+      }
+
+  rules : (i : ℕ) → i < nodes t → Ruled (tree t i)
+  unfolding Ruled ruleFits
+  rules = strong (λ i. i < nodes t → Ruled (tree t i)) step
+    where
+      step : (i : ℕ) → ((k : ℕ) → k < i → k < nodes t → Ruled (tree t k)) → i < nodes t → Ruled (tree t i)
+      step i ih h = go (view t (nodes t) kids i h)
+        where
+          kid : (c : ℕ) → Child t i c → Ruled (tree t c)
+          kid c k = let l = lower t (nodes t) kids i c h k in ih c l (omega arith)
+
+          go : View t i → Ruled (tree t i)
+          go (alone a e) = rw e tt
+          go (two a b e) = rw e (kid _ (inl (a, refl)), kid _ (inr (a, b, refl)), fits-of (kindAt t i) _ _ (two-of _ a b) (rights i h .fits))
+          go (one a e) = rw e (kid _ (inl (omega arith, refl)))
+
+  pub fitting : Fitting t
+  fitting i h = (ins (tree t i), outs (tree t i), arity (tree t i) (rules i h), rights i h .inputs, rights i h .outputs)
+
+-- acceptance, by the answer
+abbrev pub IsAccepted : CheckAnswer → Type 0
+IsAccepted r = (a : ℕ) × (b : ℕ) × (c : ℕ) × (d : ℕ) × (r ≡ Accepted a b c d)
+
+-- only tables of the stated form are accepted
+pub accepted-formed : (t : List ℕ) (r : CheckAnswer) → Checked t r → IsAccepted r → Formed t × Fitting t
+accepted-formed t r k (a, b, c, d, e) =
+    let x = has-passed (k .place) t a b c d (k .isLoose) (sym (k .answer) ∙ ap answerOf e) in
+    (formed t a b c d x, fitting t a b c d x)
+
+-- and of these exactly those whose nodes have arities by the published rules, none above 32
+reported : (xs : List ℕ) (r : CheckAnswer) → answerOf r ≡ counts xs → IsAccepted r
+reported xs (Accepted a b c d) e = (a, b, c, d, refl)
+reported xs (Refused x) e = let z : _≡_ {A = ℕ} 0 1 = cc in absurd (omega arith)
+
+
+pub acceptance : (t : List ℕ) (r : CheckAnswer) → Checked t r → Formed t → IsAccepted r ↔ Fitting t
+acceptance t r k f = (λ h. accepted-formed t r k h .1, λ w. reported _ r (k .answer ∙ complete t f w (k .place)))

@@ -1,0 +1,332 @@
+-- One node: the tests on the marks and the rows decide its refusal, and the rows give its counts.
+use Prim.Native.Nat.{ℕ, zero, suc, _≤_, _<_}
+use mathlib.Core.Path.{_≡_, refl, sym, ap, ap₂, _∙_}
+use mathlib.Core.Logic.{inl, inr}
+use mathlib.Core.Bool.{Bool, true, false, not, _&&_}
+use mathlib.Core.List.{List, [], _∷_}
+use native.Mathlib.Omega.{arith}
+use native.Mathlib.Decide.{decLe, decLt, ℕ-discrete}
+use lib.ListN.{getD}
+use lib.Dec.{eqb, leb, ltb}
+use borrow.Author.Tests.{eqb-true, leb-true, not-true, not-false, le-leb, lt-leb, le-ltb}
+use Rattle.word.specs.Choice.{pick, bit}
+use Rattle.word.specs.Operation.{operands, operandTable}
+use Rattle.refusal.specs.Answer.{refusedAt}
+use Rattle.arity.specs.Tree.{Tree, Primitive, ins, outs}
+use Rattle.arity.specs.Tree.Tree.{leaf}
+use Rattle.arity.specs.Tree.Primitive.{number, control, operation, delay, cable, cut}
+use Rattle.arity.specs.Table.{kindAt, firstAt, secondAt, nodes, tree, primitiveOf}
+use Rattle.arity.specs.Check.{knownKind, firstInRange, secondInRange, taken, free, childrenFree, rule, ruleFits, narrow, refusalAt, firstCell}
+use Rattle.arity.specs.Formed.{Children}
+use Rattle.arity.specs.Counts.{countsOf, rowOf, rowAt, ruleOf, jointCounts, Modest, Joinable}
+use Rattle.arity.specs.Survey.{State, freeIn, childrenIn, Branching, Refuses}
+use Rattle.arity.specs.declared.counts.Counts.{Counts}
+use Rattle.arity.specs.declared.counts.Row.{Row}
+use Rattle.arity.proofs.Tests.{and-left, and-right}
+use Rattle.arity.proofs.ByKind.{two-of, rule-other}
+use Rattle.arity.proofs.Taken.{children-of}
+use Rattle.arity.proofs.Trees.{View, view}
+use Rattle.arity.proofs.Trees.View.{alone, two, one}
+use Rattle.arity.proofs.Bounds.{rights, kids, need-most}
+use Rattle.arity.proofs.Joint.{leaf-any, join-counts, ondemand-counts}
+
+-- the rows downwards: the tests decide the refusal
+refusal : (t : List ℕ) (i : ℕ) (a b c d e : Bool)
+    → knownKind (kindAt t i) ≡ a
+    → (firstInRange (kindAt t i) (firstAt t i) && secondInRange (kindAt t i) (secondAt t i)) ≡ b
+    → childrenFree t i ≡ c
+    → ruleFits t i ≡ d
+    → narrow (tree t i) ≡ e
+    → refusalAt t i ≡ pick (not a) 4 (pick (not b) 5 (pick (not c) 6 (pick (not d) 7 (pick (not e) 8 0))))
+unfolding refusalAt
+refusal t i a b c d e p q r s u = rw (p, q, r, s, u)
+
+refuses : (t : List ℕ) (i r : ℕ) → refusalAt t i ≡ r → (r ≡ 0 → ⊥) → Refuses t i (refusedAt r i)
+refuses t i r e n = (ap (λ (x : ℕ). refusedAt x i) (sym e), λ z. n (sym e ∙ z))
+
+-- a mark of 0 is a node that none before has
+unmarked : (b : Bool) → eqb (bit b) 0 ≡ not b
+unmarked true = refl
+unmarked false = refl
+
+free-law : (t s m : List ℕ) (i c : ℕ) → State t s m i → i ≤ 512 → freeIn m i c ≡ free t i c
+free-law t s m i c w h = go (decLt c i)
+  where
+    go : Dec (c < i) → freeIn m i c ≡ free t i c
+    go (yes l) = ap (λ (b : Bool). ltb c i && b) (ap (λ (x : ℕ). eqb x 0) (w .marked c (omega arith)) ∙ unmarked (taken t i c))
+    go (no l) = rw (le-ltb c i (omega arith))
+
+turn : (x y z : Bool) → (z && (x && y)) ≡ (x && (y && z))
+turn true true true = refl
+turn true true false = refl
+turn true false true = refl
+turn true false false = refl
+turn false true true = refl
+turn false true false = refl
+turn false false true = refl
+turn false false false = refl
+
+children-law : (t s m : List ℕ) (i : ℕ) → State t s m i → i ≤ 512 → 7 ≤ kindAt t i → childrenIn (kindAt t i) m i (firstAt t i) (secondAt t i) ≡ childrenFree t i
+unfolding childrenFree
+children-law t s m i w h k = go (decLe (kindAt t i) 11)
+  where
+    a : freeIn m i (firstAt t i) ≡ free t i (firstAt t i)
+    a = free-law t s m i (firstAt t i) w h
+
+    b : freeIn m i (secondAt t i) ≡ free t i (secondAt t i)
+    b = free-law t s m i (secondAt t i) w h
+
+    go : Dec (kindAt t i ≤ 11) → childrenIn (kindAt t i) m i (firstAt t i) (secondAt t i) ≡ childrenFree t i
+    go (yes l) =
+        rw (lt-leb (kindAt t i) 6 k, le-leb (kindAt t i) 11 l)
+        (ap₂ (λ (x y : Bool). not (eqb (firstAt t i) (secondAt t i)) && (x && y)) a b ∙ turn (free t i (firstAt t i)) (free t i (secondAt t i)) (not (eqb (firstAt t i) (secondAt t i))))
+    go (no l) = rw (lt-leb (kindAt t i) 6 k, lt-leb (kindAt t i) 11 (omega arith)) a
+
+-- the children of all nodes up to i
+kids-to : (t : List ℕ) (i : ℕ) → ((j : ℕ) → j < i → refusalAt t j ≡ 0) → Children t i → (j : ℕ) → j ≤ i → Children t j
+kids-to t i w c j h = go (ℕ-discrete j i)
+  where
+    go : Dec (j ≡ i) → Children t j
+    go (yes e) = rw e c
+    go (no e) = kids t i w j (omega arith)
+
+view-at : (t : List ℕ) (i : ℕ) → ((j : ℕ) → j < i → refusalAt t j ≡ 0) → Children t i → View t i
+view-at t i w c = view t (suc i) (λ j h. kids-to t i w c j (omega arith)) i (omega arith)
+
+-- few inputs and outputs, or not
+narrow-by : (x : Tree) → ins x ≤ 32 → outs x ≤ 32 → narrow x ≡ true
+narrow-by x a b = rw (le-leb (ins x) 32 a, le-leb (outs x) 32 b)
+
+wide-ins : (x : Tree) → 32 < ins x → narrow x ≡ false
+wide-ins x h = rw (lt-leb (ins x) 32 h)
+
+wide-outs : (x : Tree) → ins x ≤ 32 → 32 < outs x → narrow x ≡ false
+wide-outs x h g = rw (le-leb (ins x) 32 h, lt-leb (outs x) 32 g)
+
+-- the three numbers of node i, as the code has read them
+pub record Read (t : List ℕ) (i k a b : ℕ) : Type 0 where
+  pub kind : k ≡ kindAt t i
+  pub first : a ≡ firstAt t i
+  pub second : b ≡ secondAt t i
+
+-- a node with children
+module _ (t s m : List ℕ) (i : ℕ) (w : State t s m i) (u : Branching t i) where
+  known : knownKind (kindAt t i) ≡ true
+  known = rw (le-leb 1 (kindAt t i) (omega (arith, u .least)), le-leb (kindAt t i) 12 (u .most))
+
+  fields : (firstInRange (kindAt t i) (firstAt t i) && secondInRange (kindAt t i) (secondAt t i)) ≡ true
+  fields = rw (u .first, u .second)
+
+  inside : i ≤ 512
+  inside = omega (arith, u .inside, w .most)
+
+  child-refused : childrenIn (kindAt t i) m i (firstAt t i) (secondAt t i) ≡ false → Refuses t i (refusedAt 6 i)
+  child-refused e =
+      refuses t i 6
+      (refusal t i true true false (ruleFits t i) (narrow (tree t i)) known fields (sym (children-law t s m i w inside (u .least)) ∙ e) refl refl) (λ z. omega arith)
+
+  module _ (e : childrenIn (kindAt t i) m i (firstAt t i) (secondAt t i) ≡ true) where
+    all-free : childrenFree t i ≡ true
+    all-free = sym (children-law t s m i w inside (u .least)) ∙ e
+
+    children : Children t i
+    children = children-of t i all-free
+
+    first-lower : firstAt t i < i
+    first-lower = children .first (u .least) .lower
+
+    second-lower : secondAt t i < i
+    second-lower = go (decLe (kindAt t i) 11)
+      where
+        go : Dec (kindAt t i ≤ 11) → secondAt t i < i
+        go (yes h) = children .second (u .least) h .lower
+        go (no h) =
+            let f : eqb (secondAt t i) 0 ≡ true = rw (le-leb 7 (kindAt t i) (u .least), lt-leb (kindAt t i) 11 (omega arith)) at (u .second) in
+            omega (arith, eqb-true (secondAt t i) 0 f, first-lower)
+
+    lower-both : (firstAt t i < 512) × (secondAt t i < 512)
+    lower-both = (omega (arith, first-lower, inside), omega (arith, second-lower, inside))
+
+    left : rowAt s (firstAt t i) ≡ rowOf t (firstAt t i)
+    left = w .rows (firstAt t i) first-lower
+
+    right : rowAt s (secondAt t i) ≡ rowOf t (secondAt t i)
+    right = w .rows (secondAt t i) second-lower
+
+    modest : (j : ℕ) → j < i → Modest (rowOf t j)
+    modest j h =
+        let g = rights t i (w .right) j h in
+        record { inputs = g .inputs; outputs = g .outputs; instructions = omega (arith, need-most t i (w .right) j h, inside) }
+
+    -- from the rows l and r of the children
+    module _ (l r : Row) (el : l ≡ rowOf t (firstAt t i)) (er : r ≡ rowOf t (secondAt t i)) where
+      rule-law : ruleOf (kindAt t i) l r ≡ ruleFits t i
+      unfolding ruleFits
+      rule-law = rw (el, er)
+
+      rule-refused : ruleOf (kindAt t i) l r ≡ false → Refuses t i (refusedAt 7 i)
+      rule-refused f =
+          refuses t i 7 (refusal t i true true true false (narrow (tree t i)) known fields all-free (sym rule-law ∙ f) refl) (λ z. omega arith)
+
+      joinable : ruleOf (kindAt t i) l r ≡ true → Joinable (kindAt t i) l r
+      joinable f = record { left = rw el (modest (firstAt t i) first-lower); right = rw er (modest (secondAt t i) second-lower); fits = f }
+
+      counted : jointCounts (kindAt t i) l r ≡ countsOf (tree t i)
+      counted = rw (el, er) (go (view-at t i (w .right) children))
+        where
+          go : View t i → jointCounts (kindAt t i) (rowOf t (firstAt t i)) (rowOf t (secondAt t i)) ≡ countsOf (tree t i)
+          go (alone a e) = absurd (omega (arith, u .least))
+          go (two a b e) = rw e (join-counts i (kindAt t i) (tree t (firstAt t i)) (tree t (secondAt t i)) (firstCell t (firstAt t i)) (firstCell t (secondAt t i)) (two-of (kindAt t i) a b))
+          go (one a e) =
+              let k : kindAt t i ≡ 12 = omega (arith, u .most) in
+              rw (e, k) (ondemand-counts i (tree t (firstAt t i)) (firstCell t (firstAt t i)) (rowOf t (secondAt t i)))
+
+      width-refused : ruleOf (kindAt t i) l r ≡ true → narrow (tree t i) ≡ false → Refuses t i (refusedAt 8 i)
+      width-refused f g = refuses t i 8 (refusal t i true true true true false known fields all-free (sym rule-law ∙ f) g) (λ z. omega arith)
+
+      accepted : ruleOf (kindAt t i) l r ≡ true → narrow (tree t i) ≡ true → refusalAt t i ≡ 0
+      accepted f g = refusal t i true true true true true known fields all-free (sym rule-law ∙ f) g
+
+-- the same, as the code has read the node: x says whether its children are free, y whether its rule fits
+module _ {t s m : List ℕ} {i k a b : ℕ} (w : State t s m i) (u : Branching t i) (v : Read t i k a b) {x : Bool} (ex : x ≡ childrenIn k m i a b) where
+  free-at : (z : Bool) → x ≡ z → childrenIn (kindAt t i) m i (firstAt t i) (secondAt t i) ≡ z
+  free-at z e = rw (v .kind, v .first, v .second) at (sym ex ∙ e)
+
+  pub seen-child : not x ≡ true → Refuses t i (refusedAt 6 i)
+  seen-child e = child-refused t s m i w u (free-at false (not-true x e))
+
+  module _ (e : not x ≡ false) where
+    all : childrenIn (kindAt t i) m i (firstAt t i) (secondAt t i) ≡ true
+    all = free-at true (not-false x e)
+
+    pub seen-lower : (a < 512) × (b < 512)
+    seen-lower = rw (v .first, v .second) (lower-both t s m i w u all)
+
+    module _ {l r : Row} (el : l ≡ rowAt s a) (er : r ≡ rowAt s b) {y : Bool} (ey : y ≡ ruleOf k l r) where
+      row-l : l ≡ rowOf t (firstAt t i)
+      row-l = el ∙ ap (rowAt s) (v .first) ∙ left t s m i w u all
+
+      row-r : r ≡ rowOf t (secondAt t i)
+      row-r = er ∙ ap (rowAt s) (v .second) ∙ right t s m i w u all
+
+      rule-at : (z : Bool) → y ≡ z → ruleOf (kindAt t i) l r ≡ z
+      rule-at z f = rw (v .kind) at (sym ey ∙ f)
+
+      pub seen-rule : not y ≡ true → Refuses t i (refusedAt 7 i)
+      seen-rule f = rule-refused t s m i w u all l r row-l row-r (rule-at false (not-true y f))
+
+      module _ (f : not y ≡ false) where
+        fits : ruleOf (kindAt t i) l r ≡ true
+        fits = rule-at true (not-false y f)
+
+        pub seen-joinable : Joinable k l r
+        seen-joinable = rw (v .kind) (joinable t s m i w u all l r row-l row-r fits)
+
+        module _ {n : Counts} (en : n ≡ jointCounts k l r) where
+          counts-at : n ≡ countsOf (tree t i)
+          counts-at = en ∙ ap (λ (x : ℕ). jointCounts x l r) (v .kind) ∙ counted t s m i w u all l r row-l row-r
+
+          pub seen-ins : 32 < n .inputs → Refuses t i (refusedAt 8 i)
+          seen-ins h = width-refused t s m i w u all l r row-l row-r fits (wide-ins (tree t i) (rw counts-at at h))
+
+          module _ (h : n .inputs ≤ 32) where
+            pub seen-outs : 32 < n .outputs → Refuses t i (refusedAt 8 i)
+            seen-outs g = width-refused t s m i w u all l r row-l row-r fits (wide-outs (tree t i) (rw counts-at at h) (rw counts-at at g))
+
+            pub seen-right : n .outputs ≤ 32 → (refusalAt t i ≡ 0) × (n ≡ countsOf (tree t i))
+            seen-right g =
+                (accepted t s m i w u all l r row-l row-r fits (narrow-by (tree t i) (rw counts-at at h) (rw counts-at at g)), counts-at)
+
+-- a node without children
+no-children : (t : List ℕ) (i : ℕ) → kindAt t i ≤ 6 → childrenFree t i ≡ true
+unfolding childrenFree
+no-children t i h = rw (le-leb (kindAt t i) 6 h)
+
+no-rule : (t : List ℕ) (i : ℕ) → kindAt t i ≤ 6 → ruleFits t i ≡ true
+unfolding ruleFits
+no-rule t i h = rule-other (kindAt t i) (tree t (firstAt t i)) (tree t (secondAt t i)) (λ l m. omega arith)
+
+no-more : ℕ → List ℕ → Bool
+no-more b [] = true
+no-more b (x ∷ xs) = leb x b && no-more b xs
+
+entry-most : (b : ℕ) (xs : List ℕ) → no-more b xs ≡ true → (k : ℕ) → getD xs k 0 ≤ b
+unfolding no-more
+entry-most b [] e k = omega arith
+entry-most b (x ∷ xs) e zero = leb-true x b (and-left (leb x b) (no-more b xs) e)
+entry-most b (x ∷ xs) e (suc k) = entry-most b xs (and-right (leb x b) (no-more b xs) e) k
+
+operands-few : (o : ℕ) → operands o ≤ 32
+unfolding operands no-more
+operands-few o = entry-most 32 operandTable refl o
+
+leaf-narrow : (i : ℕ) (p : Primitive) → narrow (leaf i p) ≡ true
+unfolding ins outs
+leaf-narrow i (number v) = refl
+leaf-narrow i (control s) = refl
+leaf-narrow i (operation o) = rw (le-leb (operands o) 32 (operands-few o))
+leaf-narrow i (delay d) = refl
+leaf-narrow i cable = refl
+leaf-narrow i cut = refl
+
+-- refusals 4 and 5, and a node that passes without children
+module _ {t : List ℕ} {i k a b : ℕ} (v : Read t i k a b) where
+  unknown : knownKind (kindAt t i) ≡ false → Refuses t i (refusedAt 4 i)
+  unknown e = refuses t i 4 (refusal t i false _ _ _ _ e refl refl refl refl) (λ z. omega arith)
+
+  pub kind-low : k < 1 → Refuses t i (refusedAt 4 i)
+  kind-low h = unknown (rw (lt-leb 1 (kindAt t i) (omega (arith, v .kind))))
+
+  pub kind-high : 12 < k → Refuses t i (refusedAt 4 i)
+  kind-high h = unknown (rw (le-leb 1 (kindAt t i) (omega (arith, v .kind)), lt-leb (kindAt t i) 12 (omega (arith, v .kind))))
+
+  -- x says whether the first field is in range, y the second
+  module _ (least : 1 ≤ k) (most : k ≤ 12) {x : Bool} (ex : x ≡ firstInRange k a) where
+    kind-known : knownKind (kindAt t i) ≡ true
+    kind-known = rw (le-leb 1 (kindAt t i) (omega (arith, v .kind)), le-leb (kindAt t i) 12 (omega (arith, v .kind)))
+
+    first-at : (z : Bool) → x ≡ z → firstInRange (kindAt t i) (firstAt t i) ≡ z
+    first-at z e = rw (v .kind, v .first) at (sym ex ∙ e)
+
+    wrong : (firstInRange (kindAt t i) (firstAt t i) && secondInRange (kindAt t i) (secondAt t i)) ≡ false → Refuses t i (refusedAt 5 i)
+    wrong e = refuses t i 5 (refusal t i true false _ _ _ kind-known e refl refl refl) (λ z. omega arith)
+
+    pub first-wrong : not x ≡ true → Refuses t i (refusedAt 5 i)
+    first-wrong e = wrong (rw (first-at false (not-true x e)))
+
+    module _ (e : not x ≡ false) where
+      first-right : firstInRange (kindAt t i) (firstAt t i) ≡ true
+      first-right = first-at true (not-false x e)
+
+      pub delay-short : k ≡ 4 → a ≤ 4095
+      delay-short q = leb-true a 4095 (rw q at (sym ex ∙ not-false x e))
+
+      module _ {y : Bool} (ey : y ≡ secondInRange k b) where
+        second-at : (z : Bool) → y ≡ z → secondInRange (kindAt t i) (secondAt t i) ≡ z
+        second-at z f = rw (v .kind, v .second) at (sym ey ∙ f)
+
+        pub second-wrong : not y ≡ true → Refuses t i (refusedAt 5 i)
+        second-wrong f = wrong (rw (first-right, second-at false (not-true y f)))
+
+        module _ (f : not y ≡ false) where
+          second-right : secondInRange (kindAt t i) (secondAt t i) ≡ true
+          second-right = second-at true (not-false y f)
+
+          pub branching : i < nodes t → 6 < k → Branching t i
+          branching h l = record { inside = h; least = omega (arith, v .kind); most = omega (arith, v .kind); first = first-right; second = second-right }
+
+          pub leaf-right : ((j : ℕ) → j < i → refusalAt t j ≡ 0) → k ≤ 6 → {n : Counts} → n ≡ countsOf (leaf 0 (primitiveOf k a))
+              → (refusalAt t i ≡ 0) × (n ≡ countsOf (tree t i))
+          leaf-right w l {n} q = go (view-at t i w (children-of t i (no-children t i h)))
+            where
+              h : kindAt t i ≤ 6
+              h = omega (arith, v .kind)
+
+              go : View t i → (refusalAt t i ≡ 0) × (n ≡ countsOf (tree t i))
+              go (two c d z) = absurd (omega arith)
+              go (one c z) = absurd (omega arith)
+              go (alone c z) = (
+                refusal t i true true true true true kind-known (rw (first-right, second-right)) (no-children t i h) (no-rule t i h)
+                  (ap narrow z ∙ leaf-narrow i (primitiveOf (kindAt t i) (firstAt t i))),
+                q ∙ rw (v .kind, v .first) (leaf-any i (primitiveOf (kindAt t i) (firstAt t i))) ∙ ap countsOf (sym z),
+              )

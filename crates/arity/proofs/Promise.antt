@@ -1,0 +1,138 @@
+-- The promise of the check: what a crate above it has of an accepted table.
+use Prim.Native.Nat.{ℕ, suc, _+_, _-_, _*_, _^_, _≤_, _<_}
+use mathlib.Core.Path.{_≡_, refl, sym, ap, _∙_}
+use mathlib.Core.Logic.{inl, inr}
+use mathlib.Core.Bool.{true, false, _&&_}
+use mathlib.Core.List.{List, [], _∷_}
+use native.Mathlib.Omega.{arith}
+use native.Mathlib.Decide.{decLe}
+use lib.ListN.{length, getD}
+use Rattle.arity.specs.Tree.{Tree, ins, outs, size, need}
+use Rattle.arity.specs.Table.{kindAt, firstAt, secondAt, nodes, tree, circuit, compositionOf}
+use Rattle.arity.specs.WellFormed.{Fits, WellFormed}
+use Rattle.arity.specs.Nodes.{Numbered, Complete, Sized, subtree, cellsBefore}
+use Rattle.arity.specs.Check.{ruleFits, refusalAt, cellsOf, firstCell}
+use Rattle.arity.specs.Checked.{Checked}
+use Rattle.arity.specs.Formed.{Child, Children, Formed}
+use Rattle.arity.specs.Promise.{Words, Node, Promise}
+use Rattle.arity.specs.declared.CheckAnswer.the-variants.{Accepted}
+use Rattle.arity.proofs.Sizes.{cells-before, cells-after-node}
+use Rattle.arity.proofs.ByKind.{alone-of, two-of, fits-of, known-of}
+use Rattle.arity.proofs.Trees.{View, view, as-leaf, as-join, as-ondemand, strong}
+use Rattle.arity.proofs.Trees.View.{alone, two, one}
+use Rattle.arity.proofs.Right.{Right, right}
+use Rattle.arity.proofs.Once.{lower, below, distinct, sized, everywhere}
+use Rattle.arity.proofs.Parts.{part, part-need}
+use Rattle.arity.proofs.Bounds.{need-most, cells-most}
+use Rattle.arity.proofs.Walk.{Passed, has-passed}
+use Rattle.arity.proofs.Acceptance.{formed, fields-of}
+
+module _ (t : List ℕ) (a b c d : ℕ) (x : Passed t a b c d) where
+  rights : (i : ℕ) → i < nodes t → Right t i
+  rights i h = right t i (x .right i h)
+
+  kids : (i : ℕ) → i < nodes t → Children t i
+  kids i h = rights i h .children
+
+  last : nodes t - 1 < nodes t
+  last = omega (arith, x .least)
+
+  inner : (j : ℕ) → Numbered (circuit t) j → j < nodes t
+  inner j m = omega (arith, below t (nodes t) kids (nodes t - 1) last j m, last)
+
+  pub whole-tree : Complete (nodes t) (circuit t)
+  whole-tree =
+      record {
+        distinct = distinct t (nodes t) kids _ last;
+        every = everywhere t (nodes t) kids (nodes t - 1) (omega (arith, x .least)) (λ j h. formed t a b c d x .attached j (omega arith));
+        only = inner;
+      }
+
+  -- the first cell of a node, from the tree
+  pub first-cell : (i : ℕ) → i ≤ nodes t → cellsBefore (circuit t) i ≡ firstCell t i
+  first-cell i h = cells-before (cellsOf t) (nodes t) (circuit t) whole-tree (sized t (nodes t) kids _ last) i h
+
+  fits : (i : ℕ) → i < nodes t → 7 ≤ kindAt t i → kindAt t i ≤ 11 → Fits (compositionOf (kindAt t i)) (tree t (firstAt t i)) (tree t (secondAt t i))
+  unfolding ruleFits
+  fits i h l m = fits-of (kindAt t i) _ _ (two-of _ l m) (rights i h .fits)
+
+  fits-kind : (i : ℕ) → i < nodes t → (k : ℕ) → 7 ≤ k → k ≤ 11 → kindAt t i ≡ k → Fits (compositionOf k) (tree t (firstAt t i)) (tree t (secondAt t i))
+  fits-kind i h k l m e = rw e at (fits i h (omega arith) (omega arith))
+
+  wellformed : Words t → (i : ℕ) → i < nodes t → WellFormed (tree t i)
+  unfolding WellFormed
+  wellformed words = strong (λ i. i < nodes t → WellFormed (tree t i)) step
+    where
+      step : (i : ℕ) → ((k : ℕ) → k < i → k < nodes t → WellFormed (tree t k)) → i < nodes t → WellFormed (tree t i)
+      step i ih h = go (view t (nodes t) kids i h)
+        where
+          kid : (c : ℕ) → Child t i c → WellFormed (tree t c)
+          kid c k = let l = lower t (nodes t) kids i c h k in ih c l (omega arith)
+
+          go : View t i → WellFormed (tree t i)
+          go (alone a e) = rw e (known-of (kindAt t i) (firstAt t i) (alone-of _ (rights i h .least) a) (words _) (rights i h .first))
+          go (two a b e) = rw e (kid _ (inl (a, refl)), kid _ (inr (a, b, refl)), fits i h a b)
+          go (one a e) = rw e (kid _ (inl (omega arith, refl)))
+
+  module _ (words : Words t) (i : ℕ) (h : i < nodes t) where
+    second-lower : 7 ≤ kindAt t i → secondAt t i < i
+    second-lower l = go (decLe (kindAt t i) 11)
+      where
+        go : Dec (kindAt t i ≤ 11) → secondAt t i < i
+        go (yes m) = kids i h .second l m .lower
+        go (no m) = let z = formed t a b c d x .fields i h .unused (λ u v. omega arith) in omega (arith, kids i h .first l .lower)
+
+    node : Node t i
+    node =
+        let f = formed t a b c d x .fields i h in
+        let q = part t (nodes t) kids (nodes t - 1) last i (whole-tree .every i h) in
+        record {
+          inside = omega (arith, x .whole);
+          least = rights i h .least;
+          most = rights i h .most;
+          control = λ e. omega (arith, f .control e);
+          operation = f .operation;
+          delay = f .delay;
+          left = λ l. kids i h .first l .lower;
+          right = second-lower;
+          isLeaf = as-leaf (view t (nodes t) kids i h);
+          isJoin = as-join (view t (nodes t) kids i h);
+          isOndemand = as-ondemand (view t (nodes t) kids i h);
+          wellFormed = wellformed words i h;
+          sequence = fits-kind i h 7 (omega arith) (omega arith);
+          split = fits-kind i h 9 (omega arith) (omega arith);
+          merge = fits-kind i h 10 (omega arith) (omega arith);
+          recursion = fits-kind i h 11 (omega arith) (omega arith);
+          inputs = rights i h .inputs;
+          outputs = rights i h .outputs;
+          instructions = rw q at (part-need (circuit t) (whole-tree .distinct) i (whole-tree .every i h));
+          cells = rw q at (cells-after-node (circuit t) i (nodes t) h);
+          part = q;
+        }
+
+-- what an accepted table is; its entries are words
+pub promise : (t : List ℕ) (a b c d : ℕ) → Checked t (Accepted a b c d) → Words t → Promise t a b c d
+promise t a b c d k words =
+    record {
+      whole = x .whole;
+      least = x .least;
+      most = x .most;
+      counted = (x .inputs, x .outputs, x .instructions);
+      celled = total;
+      modest = (omega (arith, x .instructions, x .most, need-most t (nodes t) (x .right) (nodes t - 1) (last t a b c d x)), omega (arith, x .cells, x .most, cells-most t (nodes t) (x .right)));
+      wellFormed = wellformed t a b c d x words (nodes t - 1) (last t a b c d x);
+      complete = whole-tree t a b c d x;
+      small = λ p q. record {
+        inputs = rights t a b c d x (nodes t - 1) (last t a b c d x) .inputs;
+        outputs = rights t a b c d x (nodes t - 1) (last t a b c d x) .outputs;
+        instructions = omega (arith, x .instructions);
+        cells = omega (arith, total);
+      };
+      node = node t a b c d x words;
+    }
+  where
+    x : Passed t a b c d
+    x = has-passed (k .place) t a b c d (k .isLoose) (sym (k .answer))
+
+    total : d ≡ cellsBefore (circuit t) (nodes t)
+    total = x .cells ∙ sym (first-cell t a b c d x (nodes t) (omega arith))

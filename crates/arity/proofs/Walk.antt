@@ -1,0 +1,153 @@
+-- The walk from node to node: where it stops, where it passes, and what is known of a table that it accepts.
+use Prim.Native.Nat.{ℕ, zero, suc, _+_, _*_, _%_, _≤_, _<_}
+use mathlib.Core.Path.{_≡_, refl, sym, _∙_}
+use mathlib.Core.Logic.{_⊎_, inl, inr}
+use mathlib.Core.Bool.{Bool, true, false, not, _&&_, false≢true}
+use mathlib.Core.List.{List, [], _∷_}
+use native.Mathlib.Omega.{arith}
+use native.Mathlib.Decide.{decLt, ℕ-discrete}
+use lib.ListN.{length}
+use lib.Dec.{eqb, ltb}
+use borrow.Author.Tests.{ltb-true, le-ltb, lt-ltb, eq-eqb, ne-eqb}
+use Rattle.word.specs.Choice.{pick}
+use Rattle.refusal.specs.Answer.{Answer, refusedAt}
+use Rattle.refusal.specs.Answer.Answer.{counts}
+use Rattle.arity.specs.Tree.{ins, outs, need}
+use Rattle.arity.specs.Table.{nodes, circuit}
+use Rattle.arity.specs.Check.{taken, refusalAt, nodeByNode, firstCell, report, loose, uneven, checked}
+use Rattle.arity.specs.Checked.{LoosePlace}
+use Rattle.arity.proofs.Tests.{and-left, known-false}
+
+-- accepted is never refused
+never : (xs : List ℕ) (r p : ℕ) → refusedAt r p ≡ counts xs → ⊥
+never xs r p e = let z : _≡_ {A = ℕ} 0 1 = cc in omega arith
+
+-- the nodes that a walk has passed
+walk-right : (t : List ℕ) (n i : ℕ) (xs : List ℕ) (rest : Answer) → nodeByNode t n i rest ≡ counts xs
+    → ((j : ℕ) → i ≤ j → j < i + n → refusalAt t j ≡ 0) × (rest ≡ counts xs)
+unfolding nodeByNode
+walk-right t zero i xs rest e = (λ j h k. absurd (omega arith), e)
+walk-right t (suc n) i xs rest e = go (ℕ-discrete (refusalAt t i) 0) (walk-right t n (suc i) xs rest)
+  where
+    go : Dec (refusalAt t i ≡ 0)
+        → (nodeByNode t n (suc i) rest ≡ counts xs → ((j : ℕ) → suc i ≤ j → j < suc i + n → refusalAt t j ≡ 0) × (rest ≡ counts xs))
+        → ((j : ℕ) → i ≤ j → j < i + suc n → refusalAt t j ≡ 0) × (rest ≡ counts xs)
+    go (no z) ih = absurd (never _ _ _ (rw (ne-eqb (refusalAt t i) 0 z) at e))
+    go (yes z) ih = (λ j h k. at j h k (ℕ-discrete i j), w .1)
+      where
+        w : ((j : ℕ) → suc i ≤ j → j < suc i + n → refusalAt t j ≡ 0) × (rest ≡ counts xs)
+        w = ih (rw (eq-eqb (refusalAt t i) 0 z) at e)
+
+        at : (j : ℕ) → i ≤ j → j < i + suc n → Dec (i ≡ j) → refusalAt t j ≡ 0
+        at j h k (yes e) = rw (← e) z
+        at j h k (no e) = w .0 j (omega arith) (omega arith)
+
+-- it goes on where no node is refused, and stops at the first that is
+walk-passes : (t : List ℕ) (n i : ℕ) (rest : Answer) → ((j : ℕ) → i ≤ j → j < i + n → refusalAt t j ≡ 0) → nodeByNode t n i rest ≡ rest
+unfolding nodeByNode
+walk-passes t zero i rest h = refl
+walk-passes t (suc n) i rest h =
+    rw (eq-eqb (refusalAt t i) 0 (h i (omega arith) (omega arith))) (walk-passes t n (suc i) rest (λ j a b. h j (omega arith) (omega arith)))
+
+walk-stops : (t : List ℕ) (n i j : ℕ) (rest : Answer) → i ≤ j → j < i + n → ((k : ℕ) → i ≤ k → k < j → refusalAt t k ≡ 0) → (refusalAt t j ≡ 0 → ⊥)
+    → nodeByNode t n i rest ≡ refusedAt (refusalAt t j) j
+unfolding nodeByNode
+walk-stops t zero i j rest a b f g = absurd (omega arith)
+walk-stops t (suc n) i j rest a b f g = go (ℕ-discrete i j) (walk-stops t n (suc i) j rest)
+  where
+    go : Dec (i ≡ j)
+        → (suc i ≤ j → j < suc i + n → ((k : ℕ) → suc i ≤ k → k < j → refusalAt t k ≡ 0) → (refusalAt t j ≡ 0 → ⊥) → nodeByNode t n (suc i) rest ≡ refusedAt (refusalAt t j) j)
+        → pick (eqb (refusalAt t i) 0) (nodeByNode t n (suc i) rest) (refusedAt (refusalAt t i) i) ≡ refusedAt (refusalAt t j) j
+    go (yes e) ih = rw (e, ne-eqb (refusalAt t j) 0 g)
+    go (no e) ih = rw (eq-eqb (refusalAt t i) 0 (f i (omega arith) (omega arith))) (ih (omega arith) (omega arith) (λ k x y. f k (omega arith) y) g)
+
+-- refusal 3
+pub even : (t : List ℕ) → (length t ≡ 0 → ⊥) → length t % 3 ≡ 0 → uneven t ≡ false
+even t some thirds = rw (ne-eqb (length t) 0 some, eq-eqb (length t % 3) 0 thirds)
+
+pub not-even : (t : List ℕ) → (length t ≡ 0) ⊎ (length t % 3 ≡ 0 → ⊥) → uneven t ≡ true
+not-even t (inl e) = rw (eq-eqb (length t) 0 e)
+not-even t (inr n) = go (ℕ-discrete (length t) 0)
+  where
+    go : Dec (length t ≡ 0) → uneven t ≡ true
+    go (yes e) = rw (eq-eqb (length t) 0 e)
+    go (no e) = rw (ne-eqb (length t) 0 e, ne-eqb (length t % 3) 0 n)
+
+pub unevenly : (p : ℕ) (t : List ℕ) → uneven t ≡ true → checked p t ≡ refusedAt 3 0
+unfolding checked
+unevenly p t e = rw e
+
+pub too-many : (p : ℕ) (t : List ℕ) → uneven t ≡ false → 512 < nodes t → checked p t ≡ refusedAt 3 512
+unfolding checked
+too-many p t e h = rw (e, lt-ltb 512 (nodes t) h)
+
+-- the nodes, and what comes after the last
+module _ (p : ℕ) (t : List ℕ) (e : uneven t ≡ false) (most : nodes t ≤ 512) where
+  walked : checked p t ≡ nodeByNode t (nodes t) 0 (pick (loose t p) (refusedAt 9 p) (report t))
+  unfolding checked
+  walked = rw (e, le-ltb 512 (nodes t) most)
+
+  pub stops : (i : ℕ) → i < nodes t → ((j : ℕ) → j < i → refusalAt t j ≡ 0) → (refusalAt t i ≡ 0 → ⊥) → checked p t ≡ refusedAt (refusalAt t i) i
+  stops i h f g = walked ∙ walk-stops t (nodes t) 0 i _ (omega arith) (omega arith) (λ k x y. f k y) g
+
+  pub passes : ((j : ℕ) → j < nodes t → refusalAt t j ≡ 0) → checked p t ≡ pick (loose t p) (refusedAt 9 p) (report t)
+  passes f = walked ∙ walk-passes t (nodes t) 0 _ (λ j x y. f j (omega arith))
+
+-- a table that passes, and the counts that it gets
+pub record Passed (t : List ℕ) (a b c d : ℕ) : Type 0 where
+  pub whole : 3 * nodes t ≡ length t
+  pub least : 1 ≤ nodes t
+  pub most : nodes t ≤ 512
+  pub right : (i : ℕ) → i < nodes t → refusalAt t i ≡ 0
+  pub tight : (q : ℕ) → loose t q ≡ false
+  pub inputs : a ≡ ins (circuit t)
+  pub outputs : b ≡ outs (circuit t)
+  pub instructions : c ≡ need (circuit t)
+  pub cells : d ≡ firstCell t (nodes t)
+
+pub has-passed : (p : ℕ) (t : List ℕ) (a b c d : ℕ) → LoosePlace t p → checked p t ≡ counts (a ∷ b ∷ c ∷ d ∷ []) → Passed t a b c d
+has-passed p t a b c d l e = first (ℕ-discrete (length t) 0) (ℕ-discrete (length t % 3) 0) (decLt 512 (nodes t)) (loose t p) refl
+  where
+    first : Dec (length t ≡ 0) → Dec (length t % 3 ≡ 0) → Dec (512 < nodes t) → (x : Bool) → loose t p ≡ x → Passed t a b c d
+    first (yes z) y x w v = absurd (never _ _ _ (sym (unevenly p t (not-even t (inl z))) ∙ e))
+    first (no z) (no y) x w v = absurd (never _ _ _ (sym (unevenly p t (not-even t (inr y))) ∙ e))
+    first (no z) (yes y) (yes x) w v = absurd (never _ _ _ (sym (too-many p t (even t z y) x) ∙ e))
+    first (no z) (yes y) (no x) true v =
+        absurd (never _ _ _ (rw v at (walk-right t (nodes t) 0 _ _ (sym (walked p t (even t z y) (omega arith)) ∙ e) .1)))
+    first (no z) (yes y) (no x) false v =
+        let r = walk-right t (nodes t) 0 _ _ (sym (walked p t (even t z y) (omega arith)) ∙ e) in
+        let q : report t ≡ counts (a ∷ b ∷ c ∷ d ∷ []) = rw v at (r .1) in
+        record {
+          whole = omega arith;
+          least = omega arith;
+          most = omega arith;
+          right = λ i h. r .0 i (omega arith) (omega arith);
+          tight = λ j. known-false (loose t j) (λ h. false≢true (sym v ∙ l j h));
+          inputs = cc;
+          outputs = cc;
+          instructions = cc;
+          cells = cc;
+        }
+
+-- there is a place for refusal 9
+pub some-place : (t : List ℕ) → (p : ℕ) × LoosePlace t p
+some-place t = go (seek (nodes t))
+  where
+    seek : (n : ℕ) → ((q : ℕ) × (loose t q ≡ true)) ⊎ ((q : ℕ) → q < n → loose t q ≡ false)
+    seek zero = inr (λ q h. absurd (omega arith))
+    seek (suc n) = step (seek n) (loose t n) refl
+      where
+        step : ((q : ℕ) × (loose t q ≡ true)) ⊎ ((q : ℕ) → q < n → loose t q ≡ false) → (x : Bool) → loose t n ≡ x
+            → ((q : ℕ) × (loose t q ≡ true)) ⊎ ((q : ℕ) → q < suc n → loose t q ≡ false)
+        step (inl w) x e = inl w
+        step (inr f) true e = inl (n, e)
+        step (inr f) false e = inr (λ q h. at q h (ℕ-discrete q n))
+          where
+            at : (q : ℕ) → q < suc n → Dec (q ≡ n) → loose t q ≡ false
+            at q h (yes z) = rw z e
+            at q h (no z) = f q (omega arith)
+
+    go : ((q : ℕ) × (loose t q ≡ true)) ⊎ ((q : ℕ) → q < nodes t → loose t q ≡ false) → (p : ℕ) × LoosePlace t p
+    go (inl w) = (w .0, λ q h. w .1)
+    go (inr f) =
+        (0, λ q h. absurd (false≢true (sym (f q (omega (arith, ltb-true (suc q) (nodes t) (and-left (ltb (suc q) (nodes t)) (not (taken t (nodes t) q)) h)))) ∙ h)))

@@ -1,0 +1,120 @@
+-- "The checks by place", for a table: which refusal it gets, at which node, and what the check reports where it gets none.
+use Prim.Native.Nat.{ℕ, zero, suc, _%_}
+use mathlib.Core.Bool.{Bool, true, false, not, _&&_, _||_}
+use mathlib.Core.List.{List, [], _∷_}
+use lib.ListN.{length}
+use lib.Dec.{eqb, leb, ltb}
+use Rattle.word.specs.Choice.{pick}
+use Rattle.refusal.specs.Answer.{Answer, refusedAt}
+use Rattle.refusal.specs.Answer.Answer.{counts}
+use Rattle.arity.specs.Tree.{Tree, ins, outs, size, need}
+use Rattle.arity.specs.Table.{kindAt, firstAt, secondAt, nodes, tree, circuit}
+use Rattle.arity.specs.Nodes.{sumTo}
+
+-- 4: "kind not 1 to 12"
+abbrev pub knownKind : ℕ → Bool
+knownKind kind = leb 1 kind && leb kind 12
+
+-- 5: "a used field of kinds 2 to 4 out of range, or an unused field not 0"; a number's value may be any, and the fields of children are for 6
+abbrev pub firstInRange : ℕ → ℕ → Bool
+firstInRange kind first =
+    pick (eqb kind 2) (leb first 15)
+    (pick (eqb kind 3) (leb 1 first && leb first 9)
+    (pick (eqb kind 4) (leb first 4095)
+    (pick (eqb kind 5) (eqb first 0)
+    (pick (eqb kind 6) (eqb first 0) true))))
+
+abbrev pub twoChildren : ℕ → Bool
+twoChildren kind = leb 7 kind && leb kind 11
+
+abbrev pub secondInRange : ℕ → ℕ → Bool
+secondInRange kind second = pick (twoChildren kind) true (eqb second 0)
+
+-- node j has the child c; a node below i has it
+abbrev pub names : List ℕ → ℕ → ℕ → Bool
+names table j c = (leb 7 (kindAt table j) && eqb (firstAt table j) c) || (twoChildren (kindAt table j) && eqb (secondAt table j) c)
+
+unfoldable pub taken : List ℕ → ℕ → ℕ → Bool
+taken table zero c = false
+taken table (suc i) c = names table i c || taken table i c
+
+-- 6: "a child negative, not lower, named twice, or taken before"; a negative number is a word of 2^31 or more, so not lower
+abbrev pub free : List ℕ → ℕ → ℕ → Bool
+free table i c = ltb c i && not (taken table i c)
+
+unfoldable pub childrenFree : List ℕ → ℕ → Bool
+childrenFree table i =
+    let l = firstAt table i in
+    let r = secondAt table i in
+    pick (leb (kindAt table i) 6) true
+    (pick (leb (kindAt table i) 11) (free table i l && (free table i r && not (eqb l r)))
+    (free table i l))
+
+-- n is b some number of times, at least once
+abbrev pub multiple : ℕ → ℕ → Bool
+multiple b n = pick (eqb b 0) (eqb n 0) (leb 1 n && eqb (n % b) 0)
+
+-- 7: "no arity rule fits", for a left side a→b and a right side c→d
+abbrev pub rule : (kind a b c d : ℕ) → Bool
+rule kind a b c d =
+    pick (eqb kind 7) (eqb b c)
+    (pick (eqb kind 9) (multiple b c)
+    (pick (eqb kind 10) (multiple c b)
+    (pick (eqb kind 11) (leb c b && leb d a) true)))
+
+unfoldable pub ruleFits : List ℕ → ℕ → Bool
+unfolding tree ins outs
+ruleFits table i =
+    let l = tree table (firstAt table i) in
+    let r = tree table (secondAt table i) in
+    rule (kindAt table i) (ins l) (outs l) (ins r) (outs r)
+
+-- 8: "inputs or outputs above 32"
+abbrev pub narrow : Tree → Bool
+narrow x = leb (ins x) 32 && leb (outs x) 32
+
+-- "At one node the rows are taken downwards": the number of the first that refuses node i, 0 where none does
+unfoldable pub refusalAt : List ℕ → ℕ → ℕ
+unfolding tree ins outs taken childrenFree ruleFits
+refusalAt table i =
+    pick (not (knownKind (kindAt table i))) 4
+    (pick (not (firstInRange (kindAt table i) (firstAt table i) && secondInRange (kindAt table i) (secondAt table i))) 5
+    (pick (not (childrenFree table i)) 6
+    (pick (not (ruleFits table i)) 7
+    (pick (not (narrow (tree table i))) 8 0))))
+
+-- "the table, node by node": n nodes from i on, then what comes after the last
+unfoldable pub nodeByNode : List ℕ → (n i : ℕ) → Answer → Answer
+unfolding refusalAt
+nodeByNode table zero i rest = rest
+nodeByNode table (suc n) i rest = pick (eqb (refusalAt table i) 0) (nodeByNode table n (suc i) rest) (refusedAt (refusalAt table i) i)
+
+-- "A node's cells follow those of all lower-numbered nodes": the first cell of node i
+abbrev pub cellsOf : List ℕ → ℕ → ℕ
+cellsOf table j = size (tree table j)
+
+abbrev pub firstCell : List ℕ → ℕ → ℕ
+firstCell table i = sumTo (cellsOf table) i
+
+-- "The check reports inputs, outputs, instructions and cells."
+abbrev pub report : List ℕ → Answer
+report table = counts (ins (circuit table) ∷ outs (circuit table) ∷ need (circuit table) ∷ firstCell table (nodes table) ∷ [])
+
+-- 9: "a node other than the last is nobody's child"
+abbrev pub loose : List ℕ → ℕ → Bool
+loose table p = ltb (suc p) (nodes table) && not (taken table (nodes table) p)
+
+-- 3: "numbers no multiple of three", or no node
+abbrev pub uneven : List ℕ → Bool
+uneven table = eqb (length table) 0 || not (eqb (length table % 3) 0)
+
+-- the whole check; "Refusal 3 has place 0 when the list is empty or its count of numbers is no multiple of three, otherwise 512"; p is the place
+-- with refusal 9
+unfoldable pub checked : ℕ → List ℕ → Answer
+unfolding nodeByNode taken tree ins outs need sumTo size
+checked p table =
+    pick (uneven table) (refusedAt 3 0)
+    (pick (ltb 512 (nodes table)) (refusedAt 3 512)
+    (nodeByNode table (nodes table) 0
+    (pick (loose table p) (refusedAt 9 p)
+    (report table))))

@@ -1,0 +1,66 @@
+-- What the check promises of a table that it accepts. Crates above this one use nothing else of it.
+use Prim.Native.Nat.{ℕ, _+_, _*_, _^_, _≤_, _<_}
+use mathlib.Core.Path.{_≡_}
+use mathlib.Core.List.{List}
+use lib.ListN.{length, getD}
+use Rattle.arity.specs.Tree.{Tree, ins, outs, size, need}
+use Rattle.arity.specs.Tree.Tree.{leaf, join, ondemand}
+use Rattle.arity.specs.Table.{kindAt, firstAt, secondAt, nodes, tree, circuit, primitiveOf, compositionOf}
+use Rattle.arity.specs.WellFormed.{Times, WellFormed}
+use Rattle.arity.specs.Nodes.{Complete, subtree, cellsBefore}
+use Rattle.arity.specs.Limits.{Small}
+use Rattle.arity.specs.Counts.{rowAt}
+
+-- the entries of a table are words
+abbrev pub Words : List ℕ → Type 0
+Words table = (k : ℕ) → getD table k 0 < 2 ^ 32
+
+-- node i of a table: its fields, its tree, the rule of its kind in the counts of its sides, and where its cells stand
+pub record Node (table : List ℕ) (i : ℕ) : Type 0 where
+  pub inside : 3 * i + 3 ≤ length table
+  pub least : 1 ≤ kindAt table i
+  pub most : kindAt table i ≤ 12
+  pub control : kindAt table i ≡ 2 → firstAt table i < 16
+  pub operation : kindAt table i ≡ 3 → (1 ≤ firstAt table i) × (firstAt table i ≤ 9)
+  pub delay : kindAt table i ≡ 4 → firstAt table i ≤ 4095
+  pub left : 7 ≤ kindAt table i → firstAt table i < i
+  -- an ondemand's second field is 0, so it is lower too
+  pub right : 7 ≤ kindAt table i → secondAt table i < i
+  pub isLeaf : kindAt table i ≤ 6 → tree table i ≡ leaf i (primitiveOf (kindAt table i) (firstAt table i))
+  pub isJoin : 7 ≤ kindAt table i → kindAt table i ≤ 11
+    → tree table i ≡ join i (compositionOf (kindAt table i)) (tree table (firstAt table i)) (tree table (secondAt table i))
+  pub isOndemand : 12 ≤ kindAt table i → tree table i ≡ ondemand i (tree table (firstAt table i))
+  pub wellFormed : WellFormed (tree table i)
+  pub sequence : kindAt table i ≡ 7 → outs (tree table (firstAt table i)) ≡ ins (tree table (secondAt table i))
+  pub split : kindAt table i ≡ 9 → Times (outs (tree table (firstAt table i))) (ins (tree table (secondAt table i)))
+  pub merge : kindAt table i ≡ 10 → Times (ins (tree table (secondAt table i))) (outs (tree table (firstAt table i)))
+  pub recursion : kindAt table i ≡ 11
+    → (ins (tree table (secondAt table i)) ≤ outs (tree table (firstAt table i))) × (outs (tree table (secondAt table i)) ≤ ins (tree table (firstAt table i)))
+  pub inputs : ins (tree table i) ≤ 32
+  pub outputs : outs (tree table i) ≤ 32
+  pub instructions : need (tree table i) ≤ need (circuit table)
+  pub cells : cellsBefore (circuit table) i + size (tree table i) ≤ cellsBefore (circuit table) (nodes table)
+  pub part : subtree (circuit table) i ≡ tree table i
+
+-- an accepted table with its inputs, outputs, instructions and cells: one tree whose root is the last node, each node in it once
+pub record Promise (table : List ℕ) (inputs outputs instructions cells : ℕ) : Type 0 where
+  pub whole : 3 * nodes table ≡ length table
+  pub least : 1 ≤ nodes table
+  pub most : nodes table ≤ 512
+  pub counted : (inputs ≡ ins (circuit table)) × (outputs ≡ outs (circuit table)) × (instructions ≡ need (circuit table))
+  pub celled : cells ≡ cellsBefore (circuit table) (nodes table)
+  pub modest : (instructions ≤ 65536) × (cells ≤ 2097152)
+  pub wellFormed : WellFormed (circuit table)
+  pub complete : Complete (nodes table) (circuit table)
+  pub small : instructions ≤ 2048 → cells ≤ 16384 → Small (nodes table) (circuit table)
+  pub node : (i : ℕ) → i < nodes table → Node table i
+
+-- the rows that a survey leaves of an accepted table
+pub record Row (table shape : List ℕ) (i : ℕ) : Type 0 where
+  pub inputs : rowAt shape i .inputs ≡ ins (tree table i)
+  pub outputs : rowAt shape i .outputs ≡ outs (tree table i)
+  pub instructions : rowAt shape i .instructions ≡ need (tree table i)
+  pub cell : rowAt shape i .cell ≡ cellsBefore (circuit table) i
+
+abbrev pub Rows : List ℕ → List ℕ → Type 0
+Rows table shape = (i : ℕ) → i < nodes table → Row table shape i

@@ -1,0 +1,77 @@
+-- What the walker's functions ask of a table and its survey, all of it promised of an accepted table, and what a step leaves.
+use Prim.Native.Nat.{ℕ, _≤_, _<_}
+use mathlib.Core.Path.{_≡_}
+use mathlib.Core.List.{List}
+use lib.Dec.{eqb}
+use lib.ListN.{take}
+use Rattle.word.specs.Choice.{pick}
+use Rattle.word.specs.Tick.{Beam, tick, Stepped, stepped}
+use Rattle.cells.specs.Cells.{part}
+use Rattle.arity.specs.Tree.{Tree, Composition, ins, outs}
+use Rattle.arity.specs.Table.{nodes, kindAt, firstAt, secondAt, compositionOf, tree, circuit}
+use Rattle.arity.specs.Nodes.{cellsBefore}
+use Rattle.arity.specs.Promise.{Node, Rows}
+use Rattle.walker.specs.Step.{step}
+use Rattle.walker.specs.Wiring.{firstInputs, secondInputs, joinOutputs, keptCells}
+
+-- the first cell of each node of a table
+abbrev pub base : List ℕ → ℕ → ℕ
+base table = cellsBefore (circuit table)
+
+pub record Ready (table shape : List ℕ) : Type 0 where
+  pub few : nodes table ≤ 512
+  pub node : (i : ℕ) → i < nodes table → Node table i
+  pub row : Rows table shape
+
+-- as many cells as the table needs
+abbrev pub Roomy : List ℕ → ℕ → Type 0
+Roomy table n = base table (nodes table) ≤ n
+
+-- node i is a composition
+pub record Joins (table : List ℕ) (i : ℕ) : Type 0 where
+  pub inside : i < nodes table
+  pub least : 7 ≤ kindAt table i
+  pub most : kindAt table i ≤ 11
+
+-- its composition and its sides
+abbrev pub joining : List ℕ → ℕ → Composition
+joining table i = compositionOf (kindAt table i)
+
+abbrev pub leftTree : List ℕ → ℕ → Tree
+leftTree table i = tree table (firstAt table i)
+
+abbrev pub rightTree : List ℕ → ℕ → Tree
+rightTree table i = tree table (secondAt table i)
+
+-- the child that runs first, and the one that runs second
+abbrev pub firstChild : List ℕ → ℕ → ℕ
+firstChild table i = pick (eqb (kindAt table i) 11) (secondAt table i) (firstAt table i)
+
+abbrev pub secondChild : List ℕ → ℕ → ℕ
+secondChild table i = pick (eqb (kindAt table i) 11) (firstAt table i) (secondAt table i)
+
+-- the first inputs and outputs of node i in an array of 32
+abbrev pub insOf : List ℕ → ℕ → Beam → Beam
+insOf table i xs = take (ins (tree table i)) xs
+
+abbrev pub outsOf : List ℕ → ℕ → Beam → Beam
+outsOf table i ys = take (outs (tree table i)) ys
+
+-- zs holds what the first child is given, where the node is given xs and the cells are cs
+pub record FirstGiven (table : List ℕ) (i : ℕ) (xs cs zs : List ℕ) : Type 0 where
+  pub is : insOf table (firstChild table i) zs
+    ≡ firstInputs (joining table i) (leftTree table i) (insOf table i xs) (part (base table i) (ins (rightTree table i)) cs)
+
+-- zs holds what the second child is given, where ys holds the outputs of the first
+pub record SecondGiven (table : List ℕ) (i : ℕ) (xs ys zs : List ℕ) : Type 0 where
+  pub is : insOf table (secondChild table i) zs
+    ≡ secondInputs (joining table i) (leftTree table i) (rightTree table i) (insOf table i xs) (outsOf table (firstChild table i) ys)
+
+-- os holds the outputs of the node and cs′ are the cells, where ys and zs hold the outputs of its children and the cells were cs
+pub record Finished (table : List ℕ) (i : ℕ) (ys zs cs os cs′ : List ℕ) : Type 0 where
+  pub outputs : outsOf table i os ≡ joinOutputs (joining table i) (outsOf table (firstChild table i) ys) (outsOf table (secondChild table i) zs)
+  pub cells : cs′ ≡ keptCells (joining table i) (base table i) (ins (rightTree table i)) (outsOf table (secondChild table i) zs) cs
+
+-- a tick of node i from the inputs xs and the cells cs leaves the outputs ys and the cells cs′
+pub record Ticked (table controls : List ℕ) (i : ℕ) (xs cs ys cs′ : List ℕ) : Type 0 where
+  pub is : stepped (outsOf table i ys) cs′ ≡ step (base table) (tree table i) (tick (insOf table i xs) controls) cs
