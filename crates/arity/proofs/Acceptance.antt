@@ -178,6 +178,5 @@ reported : (xs : List ℕ) (r : CheckAnswer) → answerOf r ≡ counts xs → Is
 reported xs (Accepted a b c d) e = (a, b, c, d, refl)
 reported xs (Refused x) e = let z : _≡_ {A = ℕ} 0 1 = cc in absurd (omega arith)
 
-
 pub acceptance : (t : List ℕ) (r : CheckAnswer) → Checked t r → Formed t → IsAccepted r ↔ Fitting t
 acceptance t r k f = (λ h. accepted-formed t r k h .1, λ w. reported _ r (k .answer ∙ complete t f w (k .place)))

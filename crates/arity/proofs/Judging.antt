@@ -327,6 +327,6 @@ module _ {t : List ℕ} {i k a b : ℕ} (v : Read t i k a b) where
               go (one c z) = absurd (omega arith)
               go (alone c z) = (
                 refusal t i true true true true true kind-known (rw (first-right, second-right)) (no-children t i h) (no-rule t i h)
-                  (ap narrow z ∙ leaf-narrow i (primitiveOf (kindAt t i) (firstAt t i))),
+                    (ap narrow z ∙ leaf-narrow i (primitiveOf (kindAt t i) (firstAt t i))),
                 q ∙ rw (v .kind, v .first) (leaf-any i (primitiveOf (kindAt t i) (firstAt t i))) ∙ ap countsOf (sym z),
               )

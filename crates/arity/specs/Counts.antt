@@ -44,10 +44,10 @@ jointCounts kind l r = record {
   inputs = pick (eqb kind 8) (l .inputs + r .inputs) (pick (eqb kind 11) (l .inputs - r .outputs) (pick (eqb kind 12) (l .inputs + 1) (l .inputs)));
   outputs = pick (eqb kind 8) (l .outputs + r .outputs) (pick (eqb kind 11) (l .outputs) (pick (eqb kind 12) (l .outputs) (r .outputs)));
   instructions =
-    pick (eqb kind 10) (l .instructions + r .instructions + (l .outputs - r .inputs))
-    (pick (eqb kind 11) (l .instructions + r .instructions + 2 * r .inputs)
-    (pick (eqb kind 12) (l .instructions + (1 + 2 * l .outputs))
-    (l .instructions + r .instructions)));
+      pick (eqb kind 10) (l .instructions + r .instructions + (l .outputs - r .inputs))
+      (pick (eqb kind 11) (l .instructions + r .instructions + 2 * r .inputs)
+      (pick (eqb kind 12) (l .instructions + (1 + 2 * l .outputs))
+      (l .instructions + r .instructions)));
   cells = pick (eqb kind 11) (r .inputs) (pick (eqb kind 12) (l .outputs) 0);
 }
 

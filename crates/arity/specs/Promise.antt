@@ -28,14 +28,14 @@ pub record Node (table : List ℕ) (i : ℕ) : Type 0 where
   pub right : 7 ≤ kindAt table i → secondAt table i < i
   pub isLeaf : kindAt table i ≤ 6 → tree table i ≡ leaf i (primitiveOf (kindAt table i) (firstAt table i))
   pub isJoin : 7 ≤ kindAt table i → kindAt table i ≤ 11
-    → tree table i ≡ join i (compositionOf (kindAt table i)) (tree table (firstAt table i)) (tree table (secondAt table i))
+      → tree table i ≡ join i (compositionOf (kindAt table i)) (tree table (firstAt table i)) (tree table (secondAt table i))
   pub isOndemand : 12 ≤ kindAt table i → tree table i ≡ ondemand i (tree table (firstAt table i))
   pub wellFormed : WellFormed (tree table i)
   pub sequence : kindAt table i ≡ 7 → outs (tree table (firstAt table i)) ≡ ins (tree table (secondAt table i))
   pub split : kindAt table i ≡ 9 → Times (outs (tree table (firstAt table i))) (ins (tree table (secondAt table i)))
   pub merge : kindAt table i ≡ 10 → Times (ins (tree table (secondAt table i))) (outs (tree table (firstAt table i)))
   pub recursion : kindAt table i ≡ 11
-    → (ins (tree table (secondAt table i)) ≤ outs (tree table (firstAt table i))) × (outs (tree table (secondAt table i)) ≤ ins (tree table (firstAt table i)))
+      → (ins (tree table (secondAt table i)) ≤ outs (tree table (firstAt table i))) × (outs (tree table (secondAt table i)) ≤ ins (tree table (firstAt table i)))
   pub inputs : ins (tree table i) ≤ 32
   pub outputs : outs (tree table i) ≤ 32
   pub instructions : need (tree table i) ≤ need (circuit table)

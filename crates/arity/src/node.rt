@@ -13,8 +13,8 @@ use super::fields::kind_of;
 use super::fields::second_in_range;
 use super::fields::second_of;
 use super::fields::wide;
-use refusal::Refusal;
 use super::rules::rule_fits;
+use refusal::Refusal;
 ghost use mathlib.Core.Path.{_≡_};
 ghost use Prim.Native.Nat.{_<_};
 ghost use Rattle.arity.specs.Table.{nodes};
@@ -90,7 +90,13 @@ fn judge(table: &[u32], shape: &[u32; 2048], marks: &[u32; 512], node: usize) ->
 }
 
 // Judge a node, put its row, and mark its children.
-pub fn step(table: &[u32], shape: &mut [u32; 2048], marks: &mut [u32; 512], node: usize, cell: u32) -> Stepped
+pub fn step(
+    table: &[u32],
+    shape: &mut [u32; 2048],
+    marks: &mut [u32; 512],
+    node: usize,
+    cell: u32,
+) -> Stepped
     requires { ⌜ State (now table) (now shape) (now marks) node ⌝ }
     requires { ⌜ node < nodes (now table) ⌝ }
     requires { ⌜ cell ≡ firstCell (now table) node ⌝ }

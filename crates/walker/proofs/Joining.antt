@@ -1,16 +1,14 @@
 -- One tick of a composition, whichever of the five it is.
-use Prim.Native.Nat.{ℕ, _≤_, _<_}
+use Prim.Native.Nat.{ℕ, _≤_}
 use mathlib.Core.Path.{_≡_, refl, sym, ap, ap₂, _∙_, subst}
 use mathlib.Core.List.{List}
-use mathlib.Core.Logic.{_⊎_}
 use native.Mathlib.Omega.{arith}
 use native.Mathlib.Decide.{ℕ-discrete}
 use lib.Dec.{eqb}
-use lib.ListN.{take}
 use Rattle.word.specs.Choice.{pick}
 use Rattle.word.specs.Tick.{Beam, Tick, tick, Stepped, stepped}
 use Rattle.cells.specs.Cells.{part}
-use Rattle.arity.specs.Tree.{Tree, Composition, ins, outs}
+use Rattle.arity.specs.Tree.{Tree, Composition, ins}
 use Rattle.arity.specs.Tree.Tree.{join}
 use Rattle.arity.specs.Tree.Composition.{sequence, parallel, split, merge, recursion}
 use Rattle.arity.specs.Table.{kindAt, firstAt, secondAt, compositionOf, tree}
@@ -90,12 +88,12 @@ pub join-ticked : {table shape controls : List ℕ} {i f s : ℕ} {xs cs zs ys c
 join-ticked {table} {shape} {controls} {i} {f} {s} {xs} {cs} {zs} {ys} {cs₁} {ws} {vs} {cs₂} {os} {cs₃} ready j ef es first a second b out =
     record {
       is =
-        ap₂ stepped (out .outputs) (out .cells)
-        ∙ sym
-        (ap (λ (t : Tree). step (base table) t (tick (insOf table i xs) controls) cs) (ready .node i (j .inside) .isJoin (j .least) (j .most))
-        ∙ worked-is (base table) i (joining table i) (leftTree table i) (rightTree table i) (tick (insOf table i xs) controls) cs (outsOf table (firstChild table i) ys) cs₁ (outsOf table (secondChild table i) vs) cs₂
-        (ap₂ (λ (t : Tree) (l : Beam). step (base table) t (tick l controls) cs) (sym (first-tree table i j)) (sym (first .is)) ∙ sym (a′ .is))
-        (ap₂ (λ (t : Tree) (l : Beam). step (base table) t (tick l controls) cs₁) (sym (second-tree table i j)) (sym (second .is)) ∙ sym (b′ .is)));
+          ap₂ stepped (out .outputs) (out .cells)
+          ∙ sym
+          (ap (λ (t : Tree). step (base table) t (tick (insOf table i xs) controls) cs) (ready .node i (j .inside) .isJoin (j .least) (j .most))
+          ∙ worked-is (base table) i (joining table i) (leftTree table i) (rightTree table i) (tick (insOf table i xs) controls) cs (outsOf table (firstChild table i) ys) cs₁ (outsOf table (secondChild table i) vs) cs₂
+          (ap₂ (λ (t : Tree) (l : Beam). step (base table) t (tick l controls) cs) (sym (first-tree table i j)) (sym (first .is)) ∙ sym (a′ .is))
+          (ap₂ (λ (t : Tree) (l : Beam). step (base table) t (tick l controls) cs₁) (sym (second-tree table i j)) (sym (second .is)) ∙ sym (b′ .is)));
     }
   where
     a′ : Ticked table controls (firstChild table i) zs cs ys cs₁

@@ -1,22 +1,22 @@
 -- The wires of each composition, from what the functions on beams give.
 use Prim.Native.Nat.{ℕ, zero, suc, _+_, _-_, _*_, _/_, _≤_, _<_}
-use mathlib.Core.Path.{_≡_, refl, sym, ap, ap₂, _∙_}
+use mathlib.Core.Path.{_≡_, refl, sym, ap, _∙_}
 use mathlib.Core.List.{List, [], _∷_, _++_}
 use native.Mathlib.Omega.{arith}
 use native.Mathlib.Nat.{zero-add, suc-add}
 use lib.ListN.{take, drop}
 use lib.Seq.{take-take, take-nil, drop-nil}
+use native.Mathlib.Decide.{ℕ-discrete}
 use borrow.Author.Tests.{eq-eqb, ne-eqb}
 use Rattle.cells.specs.Cells.{part, store}
-use Rattle.arity.specs.Tree.{Tree, ins, outs, size}
+use Rattle.arity.specs.Tree.{ins, outs, size}
 use Rattle.arity.specs.Tree.Tree.{join}
 use Rattle.arity.specs.Table.{nodes, kindAt, firstAt, secondAt, compositionOf, tree}
-use Rattle.arity.specs.WellFormed.{Times}
 use Rattle.arity.specs.Counts.{rowAt}
 use Rattle.arity.specs.Promise.{Node}
 use Rattle.arity.proofs.Times.{times-whole, times-least}
-use Rattle.signal.specs.Signal.{copies, fill, sums}
-use Rattle.walker.specs.Ready.{base, Ready, Joins, joining, leftTree, rightTree, firstChild, secondChild, insOf, outsOf, FirstGiven, SecondGiven, Finished}
+use Rattle.signal.specs.Signal.{copies, sums}
+use Rattle.walker.specs.Ready.{base, Ready, Roomy, Joins, leftTree, rightTree, firstChild, secondChild, FirstGiven, SecondGiven, Finished}
 use Rattle.walker.proofs.Joining.{Kind, kind-of}
 use Rattle.walker.proofs.Joining.Kind.{sequences, parallels, splits, merges, recursions}
 
@@ -28,6 +28,14 @@ drop-take (suc a) b (x ∷ xs) = rw suc-add (drop-take a b xs)
 -- a kind that is none of the first four compositions
 pub fifth : (k : ℕ) → 7 ≤ k → k ≤ 11 → (k ≡ 7 → ⊥) → (k ≡ 8 → ⊥) → (k ≡ 9 → ⊥) → (k ≡ 10 → ⊥) → k ≡ 11
 fifth k l m a b c d = omega arith
+
+-- a node with children that is no ondemand
+pub joins : {table shape : List ℕ} {i : ℕ} → Ready table shape → i < nodes table → 6 < kindAt table i → (kindAt table i ≡ 12 → ⊥) → Joins table i
+joins {table} {shape} {i} ready h l n = record { inside = h; least = l; most = omega (arith, ready .node i h .most) }
+
+-- as many cells
+pub roomy : (table : List ℕ) {n m : ℕ} → Roomy table n → m ≡ n → Roomy table m
+roomy table h e = omega arith
 
 module _ {table shape : List ℕ} {i : ℕ} (ready : Ready table shape) (j : Joins table i) where
   node : Node table i
@@ -47,6 +55,20 @@ module _ {table shape : List ℕ} {i : ℕ} (ready : Ready table shape) (j : Joi
 
   pub right-few : {r : ℕ} → r ≡ secondAt table i → r < 512
   right-few e = omega (arith, ready .few, right-in)
+
+  pub first-below : {f : ℕ} → f ≡ firstChild table i → f < i
+  first-below {f} e = go (ℕ-discrete (kindAt table i) 11)
+    where
+      go : Dec (kindAt table i ≡ 11) → f < i
+      go (yes k) = omega (arith, rw (eq-eqb (kindAt table i) 11 k) at e, node .right (j .least))
+      go (no k) = omega (arith, rw (ne-eqb (kindAt table i) 11 k) at e, node .left (j .least))
+
+  pub second-below : {s : ℕ} → s ≡ secondChild table i → s < i
+  second-below {s} e = go (ℕ-discrete (kindAt table i) 11)
+    where
+      go : Dec (kindAt table i ≡ 11) → s < i
+      go (yes k) = omega (arith, rw (eq-eqb (kindAt table i) 11 k) at e, node .left (j .least))
+      go (no k) = omega (arith, rw (ne-eqb (kindAt table i) 11 k) at e, node .right (j .least))
 
   -- what the rows of the survey say
   pub own-inputs : {a : ℕ} → a ≡ rowAt shape i .inputs → a ≡ ins (tree table i)
@@ -143,10 +165,12 @@ module _ {table shape : List ℕ} {i : ℕ} (ready : Ready table shape) (j : Joi
       let n = not-recursion 8 e (λ z. omega arith) in
       let q : ins (tree table i) ≡ ins (leftTree table i) + ins (rightTree table i) = ins-is 8 e in
       let t : take (ins (rightTree table i)) (take (32 - m) zs) ≡ take (ins (rightTree table i)) (drop m xs) = ap (take (ins (rightTree table i))) h in
-      record { is =
-        rw (second-right n, first-left n, e, q)
-        (sym (take-take (ins (rightTree table i)) (32 - m) zs (omega (arith, node .inputs))) ∙ t ∙ ap (λ (k : ℕ). take (ins (rightTree table i)) (drop k xs)) em
-        ∙ sym (drop-take (ins (leftTree table i)) (ins (rightTree table i)) xs)) }
+      record {
+        is =
+            rw (second-right n, first-left n, e, q)
+            (sym (take-take (ins (rightTree table i)) (32 - m) zs (omega (arith, node .inputs))) ∙ t ∙ ap (λ (k : ℕ). take (ins (rightTree table i)) (drop k xs)) em
+            ∙ sym (drop-take (ins (leftTree table i)) (ins (rightTree table i)) xs));
+      }
 
   pub second-recursion : {xs ys zs : List ℕ} {m q : ℕ} → kindAt table i ≡ 11 → m ≡ outs (rightTree table i) → q ≡ ins (tree table i) → take (m + q) zs ≡ take m ys ++ take q xs → SecondGiven table i xs ys zs
   unfolding ins

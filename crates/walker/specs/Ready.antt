@@ -5,7 +5,7 @@ use mathlib.Core.List.{List}
 use lib.Dec.{eqb}
 use lib.ListN.{take}
 use Rattle.word.specs.Choice.{pick}
-use Rattle.word.specs.Tick.{Beam, tick, Stepped, stepped}
+use Rattle.word.specs.Tick.{Beam, tick, stepped}
 use Rattle.cells.specs.Cells.{part}
 use Rattle.arity.specs.Tree.{Tree, Composition, ins, outs}
 use Rattle.arity.specs.Table.{nodes, kindAt, firstAt, secondAt, compositionOf, tree, circuit}
@@ -26,6 +26,15 @@ pub record Ready (table shape : List ℕ) : Type 0 where
 -- as many cells as the table needs
 abbrev pub Roomy : List ℕ → ℕ → Type 0
 Roomy table n = base table (nodes table) ≤ n
+
+-- i is a node
+pub record Inside (table : List ℕ) (i : ℕ) : Type 0 where
+  pub inside : i < nodes table
+
+-- node i is an ondemand
+pub record Demands (table : List ℕ) (i : ℕ) : Type 0 where
+  pub inside : i < nodes table
+  pub kind : kindAt table i ≡ 12
 
 -- node i is a composition
 pub record Joins (table : List ℕ) (i : ℕ) : Type 0 where
@@ -60,17 +69,21 @@ outsOf table i ys = take (outs (tree table i)) ys
 -- zs holds what the first child is given, where the node is given xs and the cells are cs
 pub record FirstGiven (table : List ℕ) (i : ℕ) (xs cs zs : List ℕ) : Type 0 where
   pub is : insOf table (firstChild table i) zs
-    ≡ firstInputs (joining table i) (leftTree table i) (insOf table i xs) (part (base table i) (ins (rightTree table i)) cs)
+      ≡ firstInputs (joining table i) (leftTree table i) (insOf table i xs) (part (base table i) (ins (rightTree table i)) cs)
 
 -- zs holds what the second child is given, where ys holds the outputs of the first
 pub record SecondGiven (table : List ℕ) (i : ℕ) (xs ys zs : List ℕ) : Type 0 where
   pub is : insOf table (secondChild table i) zs
-    ≡ secondInputs (joining table i) (leftTree table i) (rightTree table i) (insOf table i xs) (outsOf table (firstChild table i) ys)
+      ≡ secondInputs (joining table i) (leftTree table i) (rightTree table i) (insOf table i xs) (outsOf table (firstChild table i) ys)
 
 -- os holds the outputs of the node and cs′ are the cells, where ys and zs hold the outputs of its children and the cells were cs
 pub record Finished (table : List ℕ) (i : ℕ) (ys zs cs os cs′ : List ℕ) : Type 0 where
   pub outputs : outsOf table i os ≡ joinOutputs (joining table i) (outsOf table (firstChild table i) ys) (outsOf table (secondChild table i) zs)
   pub cells : cs′ ≡ keptCells (joining table i) (base table i) (ins (rightTree table i)) (outsOf table (secondChild table i) zs) cs
+
+-- ys holds the outputs that stand in the cells of the ondemand i
+pub record Holding (table : List ℕ) (i : ℕ) (cs ys : List ℕ) : Type 0 where
+  pub is : outsOf table i ys ≡ part (base table i) (outs (tree table i)) cs
 
 -- a tick of node i from the inputs xs and the cells cs leaves the outputs ys and the cells cs′
 pub record Ticked (table controls : List ℕ) (i : ℕ) (xs cs ys cs′ : List ℕ) : Type 0 where

@@ -1,2 +1,3 @@
 // The walker: a circuit worked tick by tick on its cells.
-pub mod wiring;
+mod step;
+mod wiring;

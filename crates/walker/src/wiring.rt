@@ -38,7 +38,13 @@ pub fn second_child(table: &[u32], node: usize) -> usize
 }
 
 // What the first child is given.
-pub fn first_input(table: &[u32], shape: &[u32; 2048], node: usize, ins: [u32; 32], cells: &[u32]) -> [u32; 32]
+pub fn first_input(
+    table: &[u32],
+    shape: &[u32; 2048],
+    node: usize,
+    ins: [u32; 32],
+    cells: &[u32],
+) -> [u32; 32]
     requires { ⌜ Ready (now table) (now shape) ⌝ }
     requires { ⌜ Joins (now table) node ⌝ }
     requires { ⌜ Roomy (now table) (length (now cells)) ⌝ }
@@ -52,7 +58,13 @@ pub fn first_input(table: &[u32], shape: &[u32; 2048], node: usize, ins: [u32; 3
 }
 
 // What the second child is given, where y are the outputs of the first.
-pub fn second_input(table: &[u32], shape: &[u32; 2048], node: usize, ins: [u32; 32], y: [u32; 32]) -> [u32; 32]
+pub fn second_input(
+    table: &[u32],
+    shape: &[u32; 2048],
+    node: usize,
+    ins: [u32; 32],
+    y: [u32; 32],
+) -> [u32; 32]
     requires { ⌜ Ready (now table) (now shape) ⌝ }
     requires { ⌜ Joins (now table) node ⌝ }
     ensures { λ r. ⌜ SecondGiven (now (table .entry)) node ins y r ⌝ }
@@ -76,7 +88,14 @@ pub fn second_input(table: &[u32], shape: &[u32; 2048], node: usize, ins: [u32; 
 }
 
 // The outputs of the node, where y and z are those of its children; a recursion keeps what it feeds back.
-pub fn finish(table: &[u32], shape: &[u32; 2048], node: usize, y: [u32; 32], z: [u32; 32], cells: &mut [u32]) -> [u32; 32]
+pub fn finish(
+    table: &[u32],
+    shape: &[u32; 2048],
+    node: usize,
+    y: [u32; 32],
+    z: [u32; 32],
+    cells: &mut [u32],
+) -> [u32; 32]
     requires { ⌜ Ready (now table) (now shape) ⌝ }
     requires { ⌜ Joins (now table) node ⌝ }
     requires { ⌜ Roomy (now table) (length (now cells)) ⌝ }

@@ -1,0 +1,164 @@
+// One tick of a node: its primitives, its compositions, its on-demand body.
+use crate::wiring::finish;
+use crate::wiring::first_child;
+use crate::wiring::first_input;
+use crate::wiring::second_child;
+use crate::wiring::second_input;
+use arity::counts::cell_of;
+use arity::counts::inputs_of;
+use arity::counts::outputs_of;
+use arity::fields::first_of;
+use arity::fields::kind_of;
+use beam::after;
+use beam::entry;
+use beam::fetched;
+use beam::keep;
+use beam::one;
+use cells::delay_at;
+use word::demand;
+use word::index;
+use word::operate;
+ghost use mathlib.Core.Path.{_≡_};
+ghost use Prim.Native.Nat.{_≤_};
+ghost use lib.ListN.{length, getD};
+ghost use Rattle.cells.specs.Cells.{store};
+ghost use Rattle.arity.specs.Table.{kindAt};
+ghost use Rattle.walker.specs.Ready.{base, outsOf, Ready, Roomy, Inside, Demands, Holding, Ticked};
+
+// The number at a place, 0 past the end.
+fn number_at(s: &[u32], at: usize) -> u32
+    ensures { λ r. ⌜ r ≡ getD (now (s .entry)) at 0 ⌝ }
+{
+    if at < s.len() {
+        return s[at];
+    }
+    0
+}
+
+// One tick of a primitive.
+fn leaf_step(
+    table: &[u32],
+    shape: &[u32; 2048],
+    node: usize,
+    controls: &[u32],
+    ins: [u32; 32],
+    cells: &mut [u32],
+) -> [u32; 32]
+    requires { ⌜ Ready (now table) (now shape) ⌝ }
+    requires { ⌜ Inside (now table) node ⌝ }
+    requires { ⌜ kindAt (now table) node ≤ 6 ⌝ }
+    requires { ⌜ Roomy (now table) (length (now cells)) ⌝ }
+    ensures { λ r. ⌜ Ticked (now (table .entry)) (now (controls .entry)) node ins (now (cells .entry)) r (now (cells .exit)) ⌝ }
+{
+    let kind = kind_of(table, node);
+    let value = first_of(table, node);
+    let n = inputs_of(shape, node);
+    if kind == 1 {
+        return one(value);
+    }
+    if kind == 2 {
+        return one(number_at(controls, index(value)));
+    }
+    if kind == 3 {
+        return one(operate(value, entry(&ins, n, 0), entry(&ins, n, 1)));
+    }
+    if kind == 4 {
+        let delayed = delay_at(
+            cells,
+            cell_of(shape, node),
+            index(value),
+            entry(&ins, n, 0),
+            entry(&ins, n, 1),
+        );
+        return one(delayed.value);
+    }
+    if kind == 5 {
+        return one(entry(&ins, n, 0));
+    }
+    ins
+}
+
+// The outputs that an ondemand holds.
+fn held(table: &[u32], shape: &[u32; 2048], node: usize, cells: &[u32]) -> [u32; 32]
+    requires { ⌜ Ready (now table) (now shape) ⌝ }
+    requires { ⌜ Demands (now table) node ⌝ }
+    requires { ⌜ Roomy (now table) (length (now cells)) ⌝ }
+    ensures { λ r. ⌜ Holding (now (table .entry)) node (now (cells .entry)) r ⌝ }
+{
+    fetched(cells, cell_of(shape, node), outputs_of(shape, node))
+}
+
+// The outputs of an ondemand's body, kept for the ticks without demand.
+fn hold(table: &[u32], shape: &[u32; 2048], node: usize, y: [u32; 32], cells: &mut [u32])
+    requires { ⌜ Ready (now table) (now shape) ⌝ }
+    requires { ⌜ Demands (now table) node ⌝ }
+    requires { ⌜ Roomy (now table) (length (now cells)) ⌝ }
+    ensures { λ _. ⌜ now (cells .exit) ≡ store (base (now (table .entry)) node) (outsOf (now (table .entry)) node y) (now (cells .entry)) ⌝ }
+{
+    keep(cells, cell_of(shape, node), outputs_of(shape, node), y);
+}
+
+// One tick of a node: a primitive, an ondemand, or a composition, whose children run one after the other.
+pub fn circuit_step(
+    table: &[u32],
+    shape: &[u32; 2048],
+    node: usize,
+    controls: &[u32],
+    ins: [u32; 32],
+    cells: &mut [u32],
+) -> [u32; 32]
+    requires { ⌜ Ready (now table) (now shape) ⌝ }
+    requires { ⌜ Inside (now table) node ⌝ }
+    requires { ⌜ Roomy (now table) (length (now cells)) ⌝ }
+    ensures { λ r. ⌜ Ticked (now (table .entry)) (now (controls .entry)) node ins (now (cells .entry)) r (now (cells .exit)) ⌝ }
+{
+    let kind = kind_of(table, node);
+    if kind <= 6 {
+        return leaf_step(table, shape, node, controls, ins, cells);
+    }
+    if kind == 12 {
+        return demand_step(table, shape, node, controls, ins, cells);
+    }
+    let first = first_child(table, node);
+    let second = second_child(table, node);
+    let y = circuit_step(
+        table,
+        shape,
+        first,
+        controls,
+        first_input(table, shape, node, ins, cells),
+        cells,
+    );
+    let z = circuit_step(
+        table,
+        shape,
+        second,
+        controls,
+        second_input(table, shape, node, ins, y),
+        cells,
+    );
+    finish(table, shape, node, y, z, cells)
+}
+
+// One tick of an ondemand: its body runs at a demand alone, and what it holds is given.
+fn demand_step(
+    table: &[u32],
+    shape: &[u32; 2048],
+    node: usize,
+    controls: &[u32],
+    ins: [u32; 32],
+    cells: &mut [u32],
+) -> [u32; 32]
+    requires { ⌜ Ready (now table) (now shape) ⌝ }
+    requires { ⌜ Demands (now table) node ⌝ }
+    requires { ⌜ Roomy (now table) (length (now cells)) ⌝ }
+    ensures { λ r. ⌜ Ticked (now (table .entry)) (now (controls .entry)) node ins (now (cells .entry)) r (now (cells .exit)) ⌝ }
+{
+    if demand(ins[0]) {
+        let body = index(first_of(table, node));
+        let y = circuit_step(table, shape, body, controls, after(ins, 1), cells);
+        hold(table, shape, node, y, cells);
+        return held(table, shape, node, cells);
+    }
+    held(table, shape, node, cells)
+}
