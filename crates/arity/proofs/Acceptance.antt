@@ -1,12 +1,11 @@
 -- A table of the stated form is accepted exactly where the published rules count inputs and outputs of each of its nodes, none above 32.
-use Prim.Native.Nat.{ℕ, suc, _%_, _≤_, _<_}
+use Prim.Native.Nat.{ℕ, suc, _≤_, _<_}
 use mathlib.Core.Path.{_≡_, refl, sym, ap, _∙_}
 use mathlib.Core.Logic.{inl, inr, _↔_}
-use mathlib.Core.Bool.{Bool, true, false, _&&_, false≢true}
-use mathlib.Core.List.{List, [], _∷_}
+use mathlib.Core.Bool.{Bool, true, false, false≢true}
+use mathlib.Core.List.{List}
 use native.Mathlib.Omega.{arith}
 use native.Mathlib.Decide.{decLe, decLt}
-use lib.ListN.{length}
 use lib.Dec.{leb}
 use borrow.Author.Tests.{leb-true, eqb-true, le-leb, le-ltb, lt-ltb, eq-eqb, ne-eqb}
 use Rattle.refusal.specs.Answer.Answer.{counts}
@@ -15,8 +14,8 @@ use Rattle.arity.specs.Tree.Tree.{join}
 use Rattle.arity.specs.Table.{kindAt, firstAt, secondAt, nodes, tree, compositionOf}
 use Rattle.arity.specs.WellFormed.{Ruled}
 use Rattle.arity.specs.Check.{twoChildren, firstInRange, secondInRange, ruleFits, taken, refusalAt, loose, report, checked}
-use Rattle.arity.specs.Checked.{answerOf, LoosePlace, Checked}
-use Rattle.arity.specs.Formed.{Child, Children, Fields, Formed, Counted, Fitting}
+use Rattle.arity.specs.Checked.{answerOf, Checked}
+use Rattle.arity.specs.Formed.{Child, Children, Fields, Formed, Fitting}
 use Rattle.arity.specs.declared.CheckAnswer.{CheckAnswer}
 use Rattle.arity.specs.declared.CheckAnswer.the-variants.{Accepted, Refused}
 use Rattle.arity.proofs.Exact.{ruled, arity}

@@ -1,6 +1,6 @@
 -- How large the counts of a table's nodes are: a tree has no more nodes than there are numbers, and no node adds much.
-use Prim.Native.Nat.{ℕ, zero, suc, _+_, _-_, _*_, _≤_, _<_}
-use mathlib.Core.Path.{_≡_, refl, sym, ap, ap₂, _∙_}
+use Prim.Native.Nat.{ℕ, zero, suc, _+_, _*_, _≤_, _<_}
+use mathlib.Core.Path.{_≡_, refl, sym}
 use mathlib.Core.Logic.{inl, inr}
 use mathlib.Core.Bool.{Bool, true, false}
 use mathlib.Core.List.{List}
@@ -9,13 +9,13 @@ use native.Mathlib.Decide.{ℕ-discrete}
 use lib.Dec.{eqb}
 use borrow.Author.Tests.{leb-true, eqb-true, eq-eqb, ne-eqb}
 use Rattle.word.specs.Choice.{pick, bit}
-use Rattle.arity.specs.Tree.{Tree, Primitive, Composition, ins, outs, size, need}
+use Rattle.arity.specs.Tree.{Tree, Primitive, ins, outs, size, need}
 use Rattle.arity.specs.Tree.Tree.{leaf, join, ondemand}
 use Rattle.arity.specs.Tree.Primitive.{number, control, operation, delay, cable, cut}
 use Rattle.arity.specs.Table.{kindAt, firstAt, secondAt, tree, primitiveOf, compositionOf}
 use Rattle.arity.specs.Nodes.{Numbered, Distinct, has, sumTo}
 use Rattle.arity.specs.Check.{firstInRange, refusalAt, cellsOf, firstCell}
-use Rattle.arity.specs.Formed.{Child, Children}
+use Rattle.arity.specs.Formed.{Children}
 use Rattle.arity.proofs.Paths.{number-has}
 use Rattle.arity.proofs.ByKind.{Alone, alone-of, Two, two-of}
 use Rattle.arity.proofs.ByKind.Alone.{k1, k2, k3, k4, k5, k6}

@@ -1,22 +1,21 @@
 -- The survey's beginning and its ends: the answer, and the rows that are left.
-use Prim.Native.Nat.{ℕ, zero, suc, _+_, _-_, _*_, _%_, _≤_, _<_}
+use Prim.Native.Nat.{ℕ, zero, suc, _+_, _-_, _%_, _≤_, _<_}
 use mathlib.Core.Path.{_≡_, refl, sym, ap, _∙_}
 use mathlib.Core.Logic.{_⊎_}
-use mathlib.Core.Bool.{Bool, true, false, not, _&&_, false≢true}
-use mathlib.Core.List.{List, [], _∷_}
+use mathlib.Core.Bool.{true, false, not, false≢true}
+use mathlib.Core.List.{List}
 use native.Mathlib.Omega.{arith}
 use native.Mathlib.Nat.{add-zero, zero-add, add-suc, suc-add}
 use lib.ListN.{length, getD, replicate, length-replicate, getD-replicate}
-use lib.Dec.{eqb, ltb}
+use lib.Dec.{ltb}
 use borrow.Author.Tests.{lt-ltb, le-ltb, eq-eqb, ne-eqb, ltb-true, not-true}
-use Rattle.word.specs.Choice.{pick, bit}
+use Rattle.word.specs.Choice.{bit}
 use Rattle.refusal.specs.Answer.{refusalOf}
 use Rattle.refusal.specs.declared.Refusal.{Refusal}
 use Rattle.refusal.specs.declared.Refusal.the-variants.{WrongNodeCount, LooseNode}
-use Rattle.arity.specs.Tree.{ins, outs, need}
-use Rattle.arity.specs.Table.{nodes, tree, circuit}
+use Rattle.arity.specs.Table.{nodes}
 use Rattle.arity.specs.Nodes.{sumTo}
-use Rattle.arity.specs.Check.{taken, refusalAt, firstCell, loose, uneven}
+use Rattle.arity.specs.Check.{taken, refusalAt, firstCell, loose}
 use Rattle.arity.specs.Checked.{Checked}
 use Rattle.arity.specs.Counts.{rowOf, rowAt, putRow}
 use Rattle.arity.specs.Survey.{State, Refuses, Steps, FoundLoose, passing, filled, surveyed}
@@ -25,7 +24,7 @@ use Rattle.arity.specs.declared.CheckAnswer.the-variants.{Accepted, Refu
 use Rattle.arity.specs.declared.counts.Row.{Row}
 use Rattle.arity.specs.declared.node.Stepped.{Stepped}
 use Rattle.arity.specs.declared.node.Stepped.the-variants.{Next, Stop}
-use Rattle.arity.proofs.Tests.{and-left, and-right, known-false, bit-zero, bit-one}
+use Rattle.arity.proofs.Tests.{and-left, and-right, known-false, bit-zero}
 use Rattle.arity.proofs.Walk.{even, not-even, unevenly, too-many, stops, passes, some-place}
 
 -- before the first node
@@ -70,6 +69,13 @@ passing-stop t (suc n) i zero h f g = rw (ne-eqb (refusalAt t i) 0 (λ e. g (rw 
 passing-stop t (suc n) i (suc d) h f g =
     rw (eq-eqb (refusalAt t i) 0 (f i (omega arith) (omega arith)))
     (ap suc (passing-stop t n (suc i) d (omega arith) (λ j x y. f j (omega arith) (omega arith)) (λ e. g (rw (add-suc, ← suc-add) e))))
+
+-- the rows of a table whose nodes all pass
+pub surveyed-all : (t s : List ℕ) → (length t ≡ 0 → ⊥) → length t % 3 ≡ 0 → nodes t ≤ 512 → ((j : ℕ) → j < nodes t → refusalAt t j ≡ 0)
+    → surveyed t s ≡ filled t (nodes t) s
+unfolding surveyed
+surveyed-all t s some thirds most f =
+    rw (even t some thirds, le-ltb 512 (nodes t) most, passing-all t (nodes t) 0 (λ j x y. f j (omega arith)))
 
 -- the answer r to the table t, with the rows s′ left of s
 pub record Done (t s : List ℕ) (r : CheckAnswer) (s′ : List ℕ) : Type 0 where
@@ -136,7 +142,7 @@ module _ {t : List ℕ} (some : length t ≡ 0 → ⊥) (thirds : length t % 3 �
           no k =
               let b = ltb-true (suc q) (nodes t) (and-left (ltb (suc q) (nodes t)) (not (taken t (nodes t) q)) k) in
               let u = not-true (taken t (nodes t) q) (and-right (ltb (suc q) (nodes t)) (not (taken t (nodes t) q)) k) in
-              l .none h q b (whole .marked q (omega (arith, whole .most)) ∙ ap bit u)
+              l .lowest q (omega arith) b (whole .marked q (omega (arith, whole .most)) ∙ ap bit u)
 
       pub ends-accepted : nodes t ≤ p → {c : ℕ} → c ≡ firstCell t i → {r : Row} → r ≡ rowAt s (nodes t - 1)
           → Done t s₀ (Accepted (r .inputs) (r .outputs) (r .instructions) c) s

@@ -1,7 +1,6 @@
 -- One node: the tests on the marks and the rows decide its refusal, and the rows give its counts.
 use Prim.Native.Nat.{ℕ, zero, suc, _≤_, _<_}
 use mathlib.Core.Path.{_≡_, refl, sym, ap, ap₂, _∙_}
-use mathlib.Core.Logic.{inl, inr}
 use mathlib.Core.Bool.{Bool, true, false, not, _&&_}
 use mathlib.Core.List.{List, [], _∷_}
 use native.Mathlib.Omega.{arith}
@@ -16,7 +15,7 @@ use Rattle.arity.specs.Tree.{Tree, Primitive, ins, outs}
 use Rattle.arity.specs.Tree.Tree.{leaf}
 use Rattle.arity.specs.Tree.Primitive.{number, control, operation, delay, cable, cut}
 use Rattle.arity.specs.Table.{kindAt, firstAt, secondAt, nodes, tree, primitiveOf}
-use Rattle.arity.specs.Check.{knownKind, firstInRange, secondInRange, taken, free, childrenFree, rule, ruleFits, narrow, refusalAt, firstCell}
+use Rattle.arity.specs.Check.{knownKind, firstInRange, secondInRange, taken, free, childrenFree, ruleFits, narrow, refusalAt, firstCell}
 use Rattle.arity.specs.Formed.{Children}
 use Rattle.arity.specs.Counts.{countsOf, rowOf, rowAt, ruleOf, jointCounts, Modest, Joinable}
 use Rattle.arity.specs.Survey.{State, freeIn, childrenIn, Branching, Refuses}

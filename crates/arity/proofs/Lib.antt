@@ -17,3 +17,4 @@ mod Joint
 mod Judging
 mod Next
 mod End
+mod Samples

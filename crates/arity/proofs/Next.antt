@@ -1,6 +1,6 @@
 -- From one node to the next: its row is put, its children are marked, and the cells up to it are counted.
-use Prim.Native.Nat.{ℕ, zero, suc, _+_, _*_, _≤_, _<_}
-use mathlib.Core.Path.{_≡_, refl, sym, ap, _∙_}
+use Prim.Native.Nat.{ℕ, suc, _+_, _*_, _≤_, _<_}
+use mathlib.Core.Path.{_≡_, refl, sym, _∙_}
 use mathlib.Core.Bool.{Bool, true, false, _&&_, _||_}
 use mathlib.Core.List.{List}
 use native.Mathlib.Omega.{arith}
@@ -15,14 +15,14 @@ use Rattle.refusal.specs.declared.Refusal.{Refusal}
 use Rattle.arity.specs.Tree.{size}
 use Rattle.arity.specs.Table.{kindAt, firstAt, secondAt, nodes, tree}
 use Rattle.arity.specs.Nodes.{sumTo}
-use Rattle.arity.specs.Check.{taken, refusalAt, firstCell, cellsOf}
+use Rattle.arity.specs.Check.{taken, refusalAt, firstCell}
 use Rattle.arity.specs.Counts.{countsOf, rowOf, rowAt, putRow}
 use Rattle.arity.specs.Survey.{State, marking, Refuses, Judges}
 use Rattle.arity.specs.declared.counts.Counts.{Counts}
 use Rattle.arity.specs.declared.counts.Row.{Row}
 use Rattle.arity.specs.declared.node.Judged.{Judged}
 use Rattle.arity.specs.declared.node.Judged.the-variants.{Right, Wrong}
-use Rattle.arity.proofs.Right.{Right as RightNode, right}
+use Rattle.arity.proofs.Right.{right}
 use Rattle.arity.proofs.Bounds.{cells-most}
 
 -- numbers put at 4 * j and after it, read at another place and at each of their own

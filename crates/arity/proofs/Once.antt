@@ -5,13 +5,11 @@ use mathlib.Core.Logic.{_⊎_, inl, inr}
 use mathlib.Core.List.{List}
 use native.Mathlib.Omega.{arith}
 use native.Mathlib.Decide.{decLt}
-use Rattle.word.proofs.Lists.{same-number}
 use Rattle.arity.specs.Tree.{Tree, size}
-use Rattle.arity.specs.Table.{kindAt, firstAt, secondAt, tree, compositionOf}
-use Rattle.arity.specs.Nodes.{Numbered, Distinct, subtree, Sized}
+use Rattle.arity.specs.Table.{kindAt, firstAt, secondAt, tree}
+use Rattle.arity.specs.Nodes.{Numbered, Distinct, Sized}
 use Rattle.arity.specs.Check.{cellsOf}
 use Rattle.arity.specs.Formed.{Child, Children}
-use Rattle.arity.proofs.Paths.{has-number, left-not-root, right-not-root, right-not-left, body-not-root}
 use Rattle.arity.proofs.Trees.{View, view, strong}
 use Rattle.arity.proofs.Trees.View.{alone, two, one}
 

@@ -1,11 +1,11 @@
 -- The tree of a node is a part of the tree of each node above it: found by its number, and no larger.
-use Prim.Native.Nat.{ℕ, _+_, _*_, _≤_, _<_}
+use Prim.Native.Nat.{ℕ, _+_, _≤_, _<_}
 use mathlib.Core.Path.{_≡_, refl, sym, ap, _∙_}
 use mathlib.Core.Logic.{_⊎_, inl, inr}
 use mathlib.Core.List.{List}
 use native.Mathlib.Omega.{arith}
 use Rattle.word.proofs.Lists.{same-number}
-use Rattle.arity.specs.Tree.{Tree, Composition, ins, outs, need}
+use Rattle.arity.specs.Tree.{Tree, Composition, need}
 use Rattle.arity.specs.Tree.Tree.{leaf, join, ondemand}
 use Rattle.arity.specs.Tree.Composition.{sequence, parallel, split, merge, recursion}
 use Rattle.arity.specs.Table.{firstAt, secondAt, tree}

@@ -1,20 +1,22 @@
 -- The promise of the check: what a crate above it has of an accepted table.
-use Prim.Native.Nat.{ℕ, suc, _+_, _-_, _*_, _^_, _≤_, _<_}
+use Prim.Native.Nat.{ℕ, zero, suc, _-_, _*_, _≤_, _<_}
 use mathlib.Core.Path.{_≡_, refl, sym, ap, _∙_}
 use mathlib.Core.Logic.{inl, inr}
-use mathlib.Core.Bool.{true, false, _&&_}
-use mathlib.Core.List.{List, [], _∷_}
+use mathlib.Core.List.{List}
 use native.Mathlib.Omega.{arith}
 use native.Mathlib.Decide.{decLe}
-use lib.ListN.{length, getD}
-use Rattle.arity.specs.Tree.{Tree, ins, outs, size, need}
+use lib.ListN.{length}
 use Rattle.arity.specs.Table.{kindAt, firstAt, secondAt, nodes, tree, circuit, compositionOf}
 use Rattle.arity.specs.WellFormed.{Fits, WellFormed}
-use Rattle.arity.specs.Nodes.{Numbered, Complete, Sized, subtree, cellsBefore}
-use Rattle.arity.specs.Check.{ruleFits, refusalAt, cellsOf, firstCell}
-use Rattle.arity.specs.Checked.{Checked}
-use Rattle.arity.specs.Formed.{Child, Children, Formed}
-use Rattle.arity.specs.Promise.{Words, Node, Promise}
+use Rattle.arity.specs.Nodes.{Numbered, Complete, cellsBefore}
+use Rattle.arity.specs.Check.{ruleFits, cellsOf, firstCell}
+use Rattle.arity.specs.Checked.{answerOf, Checked}
+use Rattle.arity.specs.Formed.{Child, Children}
+use Rattle.arity.specs.Counts.{rowOf, rowAt, putRow}
+use Rattle.arity.specs.Survey.{filled, surveyed}
+use Rattle.arity.specs.Promise.{Words, Node, Promise, Rows}
+use Rattle.arity.specs.declared.counts.Row.{Row as RowOf}
+use Rattle.arity.specs.declared.CheckAnswer.{CheckAnswer}
 use Rattle.arity.specs.declared.CheckAnswer.the-variants.{Accepted}
 use Rattle.arity.proofs.Sizes.{cells-before, cells-after-node}
 use Rattle.arity.proofs.ByKind.{alone-of, two-of, fits-of, known-of}
@@ -25,7 +27,9 @@ use Rattle.arity.proofs.Once.{lower, below, distinct, sized, everywhere
 use Rattle.arity.proofs.Parts.{part, part-need}
 use Rattle.arity.proofs.Bounds.{need-most, cells-most}
 use Rattle.arity.proofs.Walk.{Passed, has-passed}
-use Rattle.arity.proofs.Acceptance.{formed, fields-of}
+use Rattle.arity.proofs.Acceptance.{formed}
+use Rattle.arity.proofs.Next.{put-length, row-other, row-same, one-more}
+use Rattle.arity.proofs.End.{surveyed-all}
 
 module _ (t : List ℕ) (a b c d : ℕ) (x : Passed t a b c d) where
   rights : (i : ℕ) → i < nodes t → Right t i
@@ -110,9 +114,12 @@ module _ (t : List ℕ) (a b c d : ℕ) (x : Passed t a b c d) where
           part = q;
         }
 
+passed : {t : List ℕ} {o : CheckAnswer} {a b c d : ℕ} → Checked t o → o ≡ Accepted a b c d → Passed t a b c d
+passed {t} {o} {a} {b} {c} {d} k e = has-passed (k .place) t a b c d (k .isLoose) (sym (k .answer) ∙ ap answerOf e)
+
 -- what an accepted table is; its entries are words
-pub promise : (t : List ℕ) (a b c d : ℕ) → Checked t (Accepted a b c d) → Words t → Promise t a b c d
-promise t a b c d k words =
+pub promise : {t : List ℕ} {o : CheckAnswer} {a b c d : ℕ} → Checked t o → o ≡ Accepted a b c d → Words t → Promise t a b c d
+promise {t} {o} {a} {b} {c} {d} k e words =
     record {
       whole = x .whole;
       least = x .least;
@@ -132,7 +139,40 @@ promise t a b c d k words =
     }
   where
     x : Passed t a b c d
-    x = has-passed (k .place) t a b c d (k .isLoose) (sym (k .answer))
+    x = passed k e
 
     total : d ≡ cellsBefore (circuit t) (nodes t)
     total = x .cells ∙ sym (first-cell t a b c d x (nodes t) (omega arith))
+
+-- a shape with rows is as long as before
+filled-length : (t s : List ℕ) (i : ℕ) → length (filled t i s) ≡ length s
+unfolding filled
+filled-length t s zero = refl
+filled-length t s (suc i) = put-length (filled t i s) i (rowOf t i) ∙ filled-length t s i
+
+pub surveyed-length : (t s : List ℕ) → length (surveyed t s) ≡ length s
+unfolding surveyed
+surveyed-length t s = filled-length t s _
+
+filled-row : (t s : List ℕ) (i : ℕ) → 4 * i ≤ length s → (j : ℕ) → j < i → rowAt (filled t i s) j ≡ rowOf t j
+unfolding filled
+filled-row t s zero h = λ j k. absurd (omega arith)
+filled-row t s (suc i) h =
+    one-more (λ j. rowAt (putRow (filled t i s) i (rowOf t i)) j ≡ rowOf t j) i
+    (λ j k. row-other (filled t i s) i (rowOf t i) j (λ e. omega arith) ∙ filled-row t s i (omega arith) j k)
+    (row-same (filled t i s) i (rowOf t i) (omega (arith, filled-length t s i)))
+
+-- what a survey leaves of an accepted table
+pub rows : {t : List ℕ} (s : List ℕ) {s′ : List ℕ} {o : CheckAnswer} {a b c d : ℕ} → Checked t o → o ≡ Accepted a b c d → length s ≡ 2048 → s′ ≡ surveyed t s
+    → Rows t s′
+rows {t} s {s′} {o} {a} {b} {c} {d} k e long f i h =
+    let q = row-at in
+    record { inputs = ap (λ (r : RowOf). r .inputs) q; outputs = ap (λ (r : RowOf). r .outputs) q; instructions = ap (λ (r : RowOf). r .instructions) q; cell = ap (λ (r : RowOf). r .cell) q ∙ sym (first-cell t a b c d x i (omega arith)) }
+  where
+    x : Passed t a b c d
+    x = passed k e
+
+    row-at : rowAt s′ i ≡ rowOf t i
+    row-at =
+        ap (λ (l : List ℕ). rowAt l i) (f ∙ surveyed-all t s (λ z. omega (arith, x .whole, x .least)) (omega (arith, x .whole)) (x .most) (x .right))
+        ∙ filled-row t s (nodes t) (omega (arith, x .most)) i h

@@ -3,7 +3,7 @@ use Prim.Native.Nat.{ℕ, _+_, _*_, _^_, _≤_, _<_}
 use mathlib.Core.Path.{_≡_}
 use mathlib.Core.List.{List}
 use lib.ListN.{length, getD}
-use Rattle.arity.specs.Tree.{Tree, ins, outs, size, need}
+use Rattle.arity.specs.Tree.{ins, outs, size, need}
 use Rattle.arity.specs.Tree.Tree.{leaf, join, ondemand}
 use Rattle.arity.specs.Table.{kindAt, firstAt, secondAt, nodes, tree, circuit, primitiveOf, compositionOf}
 use Rattle.arity.specs.WellFormed.{Times, WellFormed}

@@ -1,7 +1,6 @@
 // Refusals 6 and 9: which nodes are taken, one mark a node.
 ghost use mathlib.Core.Path.{_≡_};
 ghost use Prim.Native.Nat.{_≤_, _<_};
-ghost use lib.ListN.{length};
 ghost use Rattle.arity.specs.Survey.{freeIn, childrenIn, marking, FoundLoose};
 
 // A child is lower, and no node before has it.

@@ -1,2 +1,4 @@
 pub mod Parts
 pub mod Line
+pub mod Playing
+pub mod Calls

@@ -1,11 +1,11 @@
 -- Parts of the cells: what is stored is read back, and nothing else changes.
 use Prim.Native.Nat.{ℕ, zero, suc, _+_, _≤_, _<_}
-use mathlib.Core.Path.{_≡_, refl, ap, ap₂, _∙_}
-use mathlib.Core.List.{List, [], _∷_, _++_}
+use mathlib.Core.Path.{_≡_, refl, sym, ap, ap₂, _∙_}
+use mathlib.Core.List.{List, [], _∷_, _++_, append-assoc}
 use native.Mathlib.Nat.{zero-add, add-zero, add-suc, suc-add}
 use native.Mathlib.Omega.{arith}
-use lib.ListN.{length, length-set, getD, set, getD-replicate}
-use lib.Seq.{length-sets, getD-set-same, getD-set-other, ext-getD}
+use lib.ListN.{length, length-set, getD, set, getD-replicate, take, drop, length-drop}
+use lib.Seq.{length-sets, getD-set-same, getD-set-other, ext-getD, sets-eq, getD-take, getD-drop, length-take-le}
 use Rattle.word.specs.Tick.{zeros}
 use Rattle.cells.specs.Cells.{part, store}
 use Rattle.cells.specs.Delay.{moved}
@@ -86,3 +86,14 @@ part-append a (suc n) m cs = rw (suc-add, add-suc a n, ← suc-add a n) (ap {B =
 -- all cells
 pub part-all : (cs : List ℕ) → part 0 (length cs) cs ≡ cs
 part-all cs = ext-getD 0 (part 0 (length cs) cs) cs (part-length 0 (length cs) cs) (λ i b. part-at 0 (length cs) i cs (omega (arith, part-length 0 (length cs) cs)) ∙ rw zero-add)
+
+-- a part that lies inside is a slice
+pub part-take : (a n : ℕ) (cs : List ℕ) → a + n ≤ length cs → part a n cs ≡ take n (drop a cs)
+part-take a n cs h =
+    let l : length (take n (drop a cs)) ≡ n = length-take-le n (drop a cs) (rw length-drop (omega arith)) in
+    ext-getD 0 (part a n cs) (take n (drop a cs)) (part-length a n cs ∙ sym l)
+    (λ i b. let b′ : i < n = rw part-length at b in part-at a n i cs b′ ∙ sym (getD-take n (drop a cs) i 0 b′ ∙ getD-drop a cs i 0))
+
+-- what is stored inside stands between what was before and after it
+pub store-parts : (a : ℕ) (ys cs : List ℕ) → a + length ys ≤ length cs → store a ys cs ≡ take a cs ++ (ys ++ drop (a + length ys) cs)
+store-parts a ys cs h = sets-eq ys cs a h ∙ append-assoc (take a cs) ys (drop (a + length ys) cs)

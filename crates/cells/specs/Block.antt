@@ -4,9 +4,9 @@ use mathlib.Core.Bool.{Bool}
 use mathlib.Core.List.{List, [], _∷_, _++_}
 use lib.ListN.{length, drop, take}
 use lib.Dec.{eqb, leb}
-use Rattle.word.specs.Choice.{_and_}
+use Rattle.word.specs.Choice.{pick, _and_}
 use Rattle.word.specs.Tick.{Tick, tick, Stepped, stepped, headOr}
-use Rattle.refusal.specs.Answer.{Answer, refusedAll}
+use Rattle.refusal.specs.Answer.{Answer, count, refusedAll}
 use Rattle.refusal.specs.Answer.Answer.{counts, refused}
 
 -- how much was written
@@ -20,9 +20,13 @@ pub record Ran : Type 0 where
   pub cells : List ℕ
   pub outputs : List ℕ
 
+-- an answer with the cells and the output buffer after the call
+abbrev pub ranAs : Answer → List ℕ → List ℕ → Ran
+ranAs a cells outputs = record { answer = a; cells = cells; outputs = outputs }
+
 -- "A refusal writes to no lent buffer."
 abbrev pub unchanged : Answer → List ℕ → List ℕ → Ran
-unchanged a cells outputs = record { answer = a; cells = cells; outputs = outputs }
+unchanged a cells outputs = ranAs a cells outputs
 
 abbrev pub refusal : ℕ → List ℕ → List ℕ → Ran
 refusal r cells outputs = unchanged (refusedAll r) cells outputs
@@ -43,3 +47,19 @@ played g (f ∷ fs) cs =
 -- row 14 does not apply to a call for n inputs: "ticks not 0 to 4,096; inputs not ticks × n; controls not 16"
 abbrev pub blockOk : ℕ → ℕ → List ℕ → List ℕ → Bool
 blockOk n ticks inputs controls = leb ticks 4096 and eqb (length inputs) (ticks * n) and eqb (length controls) 16
+
+-- a call that is not refused, of n inputs, m outputs and k cells, each tick worked by g; "a buffer longer than needed keeps its content past the
+-- needed part"
+unfoldable pub answered : (Tick → List ℕ → Stepped) → (n m k ticks : ℕ) → List ℕ → List ℕ → List ℕ → List ℕ → Ran
+answered g n m k ticks inputs controls cells outputs =
+    let s = played g (ticksOf n controls ticks inputs) (take k cells) in
+    ranAs (count (ticks * m)) (s .cells ++ drop k cells) (s .outputs ++ drop (ticks * m) outputs)
+
+-- a call of walker or runner once its circuit is known: 14, then 12, "the buffer to be filled or changed is shorter than needed; last"
+unfoldable pub called : (Tick → List ℕ → Stepped) → (n m k ticks : ℕ) → List ℕ → List ℕ → List ℕ → List ℕ → Ran
+called g n m k ticks inputs controls cells outputs =
+    pick (blockOk n ticks inputs controls)
+    (pick (leb k (length cells) and leb (ticks * m) (length outputs))
+    (answered g n m k ticks inputs controls cells outputs)
+    (refusal 12 cells outputs))
+    (refusal 14 cells outputs)

@@ -8,6 +8,7 @@ ghost use lib.ListN.{length, getD, drop};
 ghost use Rattle.word.specs.Word.{clamp as clampOf};
 ghost use Rattle.word.specs.Tick.{zeros};
 ghost use Rattle.cells.specs.Load.{loaded, loadedAs, answerOf};
+ghost use Rattle.cells.specs.Block.{blockOk};
 ghost use Rattle.cells.specs.Delay.{position as positionOf, delayed as delayedOf, moved as movedOf};
 
 // How far back, from 0 to d.
@@ -140,4 +141,12 @@ pub fn load(named: u32, cells: &mut [u32]) -> LoadAnswer
     }
     clear(cells, count);
     LoadAnswer::Cells(named)
+}
+
+// Does row 14 let a call pass that is for n inputs a tick?
+pub fn block_ok(n: u32, ticks: u32, inputs: &[u32], controls: &[u32]) -> bool
+    requires { ⌜ n ≤ 32 ⌝ }
+    ensures { λ r. ⌜ r ≡ blockOk n ticks (now (inputs .entry)) (now (controls .entry)) ⌝ }
+{
+    ticks <= 4096 && (inputs.len() == index(ticks) * index(n) && controls.len() == 16)
 }

@@ -1,11 +1,11 @@
 -- What the walker's functions ask of a table and its survey, all of it promised of an accepted table, and what a step leaves.
-use Prim.Native.Nat.{ℕ, _≤_, _<_}
+use Prim.Native.Nat.{ℕ, _-_, _*_, _≤_, _<_}
 use mathlib.Core.Path.{_≡_}
 use mathlib.Core.List.{List}
 use lib.Dec.{eqb}
-use lib.ListN.{take}
+use lib.ListN.{length, take}
 use Rattle.word.specs.Choice.{pick}
-use Rattle.word.specs.Tick.{Beam, tick, stepped}
+use Rattle.word.specs.Tick.{Beam, Tick, tick, Stepped, stepped}
 use Rattle.cells.specs.Cells.{part}
 use Rattle.arity.specs.Tree.{Tree, Composition, ins, outs}
 use Rattle.arity.specs.Table.{nodes, kindAt, firstAt, secondAt, compositionOf, tree, circuit}
@@ -88,3 +88,26 @@ pub record Holding (table : List ℕ) (i : ℕ) (cs ys : List ℕ) : Type 0 wher
 -- a tick of node i from the inputs xs and the cells cs leaves the outputs ys and the cells cs′
 pub record Ticked (table controls : List ℕ) (i : ℕ) (xs cs ys cs′ : List ℕ) : Type 0 where
   pub is : stepped (outsOf table i ys) cs′ ≡ step (base table) (tree table i) (tick (insOf table i xs) controls) cs
+
+-- one tick of a table's circuit
+abbrev pub stepOf : List ℕ → Tick → List ℕ → Stepped
+stepOf table = step (base table) (circuit table)
+
+-- what playing ticks asks: the root is the last node, and the buffers are as long as needed and no longer
+pub record Playable (table shape : List ℕ) (root n m ticks : ℕ) (inputs cells outputs : List ℕ) : Type 0 where
+  pub ready : Ready table shape
+  pub least : 1 ≤ nodes table
+  pub last : root ≡ nodes table - 1
+  pub inputs-are : n ≡ ins (circuit table)
+  pub outputs-are : m ≡ outs (circuit table)
+  pub reads : length inputs ≡ ticks * n
+  pub writes : length outputs ≡ ticks * m
+  pub room : length cells ≡ base table (nodes table)
+
+-- what a survey of an accepted table leaves, with the counts of its circuit
+pub record Surveyed (table shape : List ℕ) (n m cells : ℕ) : Type 0 where
+  pub ready : Ready table shape
+  pub least : 1 ≤ nodes table
+  pub inputs-are : n ≡ ins (circuit table)
+  pub outputs-are : m ≡ outs (circuit table)
+  pub cells-are : cells ≡ base table (nodes table)

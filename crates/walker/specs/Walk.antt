@@ -1,29 +1,48 @@
--- The walker: the complete result of one call for an accepted table, its circuit t of n nodes.
-use Prim.Native.Nat.{ℕ, _*_}
-use mathlib.Core.List.{List, _++_}
-use lib.ListN.{length, drop, take}
+-- The walker: the complete result of one call, its answer, the lent cells and the output buffer after it.
+use Prim.Native.Nat.{ℕ}
+use mathlib.Core.Path.{_≡_}
+use mathlib.Core.List.{List}
 use lib.Dec.{leb}
-use Rattle.word.specs.Choice.{_and_, pick}
-use Rattle.cells.specs.Block.{Ran, refusal, ticksOf, played, blockOk}
-use Rattle.refusal.specs.Answer.{count}
+use Rattle.word.specs.Choice.{pick}
+use Rattle.refusal.specs.Answer.{Answer, count, refusalOf}
+use Rattle.refusal.specs.Answer.Answer.{counts, refused}
+use Rattle.cells.specs.Block.{Ran, ranAs, unchanged, refusal, answered, called}
 use Rattle.arity.specs.Tree.{Tree, ins, outs}
+use Rattle.arity.specs.Table.{nodes, circuit}
 use Rattle.arity.specs.Nodes.{cellsBefore}
+use Rattle.arity.specs.Check.{checked}
+use Rattle.arity.specs.Checked.{LoosePlace}
+use Rattle.walker.specs.declared.WalkAnswer.{WalkAnswer}
+use Rattle.walker.specs.declared.WalkAnswer.the-variants.{Samples, Refused}
 use Rattle.walker.specs.Step.{step}
 
--- a call that is not refused
-unfoldable pub walks : ℕ → Tree → ℕ → List ℕ → List ℕ → List ℕ → List ℕ → Ran
-walks n t ticks inputs controls cells outputs =
-    let s = played (step (cellsBefore t) t) (ticksOf (ins t) controls ticks inputs) (take (cellsBefore t n) cells) in
-    let w = ticks * outs t in
-    record { answer = count w; cells = s .cells ++ drop (cellsBefore t n) cells; outputs = s .outputs ++ drop w outputs }
+-- the document's answer for each case
+abbrev pub answerOf : WalkAnswer → Answer
+answerOf (Samples n) = count n
+answerOf (Refused r) = refusalOf r
 
--- 11, then 14, then 12
+-- a call that is not refused, of a circuit t of n nodes
+abbrev pub walks : ℕ → Tree → ℕ → List ℕ → List ℕ → List ℕ → List ℕ → Ran
+walks n t = answered (step (cellsBefore t) t) (ins t) (outs t) (cellsBefore t n)
+
+-- 11, then 14 and 12
 unfoldable pub walked : ℕ → Tree → ℕ → List ℕ → List ℕ → List ℕ → List ℕ → Ran
 walked n t ticks inputs controls cells outputs =
     pick (leb (cellsBefore t n) 16384)
-    (pick (blockOk (ins t) ticks inputs controls)
-    (pick (leb (cellsBefore t n) (length cells) and leb (ticks * outs t) (length outputs))
-    (walks n t ticks inputs controls cells outputs)
-    (refusal 12 cells outputs))
-    (refusal 14 cells outputs))
+    (called (step (cellsBefore t) t) (ins t) (outs t) (cellsBefore t n) ticks inputs controls cells outputs)
     (refusal 11 cells outputs)
+
+-- what the check's answer leaves: its refusal, or the walk of the table's circuit
+abbrev pub walkedBy : Answer → List ℕ → ℕ → List ℕ → List ℕ → List ℕ → List ℕ → Ran
+walkedBy (counts ks) table ticks inputs controls cells outputs = walked (nodes table) (circuit table) ticks inputs controls cells outputs
+walkedBy (refused r p) table ticks inputs controls cells outputs = unchanged (refused r p) cells outputs
+
+-- "Walker: table, 11, 14, 12"; p is the place with refusal 9
+unfoldable pub walkedTable : ℕ → List ℕ → ℕ → List ℕ → List ℕ → List ℕ → List ℕ → Ran
+walkedTable p table = walkedBy (checked p table) table
+
+-- r and the buffers after a call are the walker's, with some loose node as the place of refusal 9
+pub record Walked (table : List ℕ) (ticks : ℕ) (inputs controls cells outputs : List ℕ) (r : WalkAnswer) (cells′ outputs′ : List ℕ) : Type 0 where
+  pub place : ℕ
+  pub isLoose : LoosePlace table place
+  pub result : ranAs (answerOf r) cells′ outputs′ ≡ walkedTable place table ticks inputs controls cells outputs

@@ -1,13 +1,13 @@
 -- Before node i the state holds and i rows are filled; each return is one of the ends.
 use borrow.Author.Needs.{needs}
 use Prim.Native.Nat.{_-_, _≤_}
-use mathlib.Core.Path.{_≡_, refl, sym}
+use mathlib.Core.Path.{_≡_, refl}
 use mathlib.Core.Logic.{inl, inr}
 use native.Mathlib.Numerals.{add-one}
 use native.Mathlib.Omega.{arith}
 use Rattle.arity.specs.Check.{firstCell}
 use Rattle.arity.specs.Survey.{State, filled}
-use Rattle.arity.proofs.End.{start-state, no-cells, filled-none, filled-more, Done, ends-uneven, ends-long, ends-refused, ends-loose, ends-accepted, stepped-next, stepped-stop}
+use Rattle.arity.proofs.End.{start-state, no-cells, filled-none, filled-more, ends-uneven, ends-long, ends-refused, ends-loose, ends-accepted, stepped-next, stepped-stop}
 use Rattle.arity.proofs.survey.Statement.{statement}
 use Rattle.arity.proofs.survey.Tie as tie
 

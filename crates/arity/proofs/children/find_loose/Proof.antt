@@ -26,7 +26,7 @@ element-copy-out-if1 : tie.Need-element-copy-out-if1 Inv-loop μ-loop
 element-copy-out-if1 c = omega arith
 
 returns : tie.Need-returns Inv-loop μ-loop
-returns c = record { within = omega arith; found = λ h. (omega arith, c .if1 .taken); none = λ h. absurd (omega arith) }
+returns c = record { within = omega arith; found = λ h. (omega arith, c .if1 .taken); lowest = λ j h g. c .before .before .before .loop .inv .1 j h }
 
 add-i : tie.Need-add-i Inv-loop μ-loop
 add-i c = omega arith
@@ -38,7 +38,7 @@ loop-again : tie.Need-loop-again Inv-loop μ-loop
 loop-again c = (omega arith, below-more _ _ (c .before .before .before .loop .inv .1) (c .if1 .left))
 
 returns-2 : tie.Need-returns-2 Inv-loop μ-loop
-returns-2 c = record { within = omega arith; found = λ h. absurd (omega arith); none = λ h j g. c .before .loop .inv .1 j (omega arith) }
+returns-2 c = record { within = omega arith; found = λ h. absurd (omega arith); lowest = λ j h g. c .before .loop .inv .1 j (omega arith) }
 
 pub find-loose-spec : {M : Type 1} → statement M
 find-loose-spec =

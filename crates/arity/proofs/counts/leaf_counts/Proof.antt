@@ -1,7 +1,6 @@
 -- By kind.
 use borrow.Author.Needs.{needs}
 use native.Mathlib.Omega.{arith}
-use Rattle.arity.specs.Tree.{ins, outs, size, need}
 use Rattle.arity.proofs.ByKind.{alone-of}
 use Rattle.arity.proofs.Joint.{leaf-operation, leaf-delay, leaf-cable, leaf-cut, leaf-other}
 use Rattle.arity.proofs.counts.leaf_counts.Statement.{statement}

@@ -1,0 +1,44 @@
+-- Small tables through the definition of the check.
+use Prim.Native.Nat.{ℕ}
+use mathlib.Core.Path.{_≡_, refl}
+use mathlib.Core.List.{List, [], _∷_, _++_}
+use Rattle.word.specs.Operation.{operands}
+use Rattle.refusal.specs.Answer.{Answer, refusedAt}
+use Rattle.refusal.specs.Answer.Answer.{counts}
+use Rattle.arity.specs.Check.{checked}
+
+-- a table and the check's answer to it
+record Sample : Type 0 where
+  table : List ℕ
+  answer : Answer
+
+abbrev sample : List ℕ → Answer → Sample
+sample t a = record { table = t; answer = a }
+
+abbrev cable : List ℕ
+cable = 5 ∷ 0 ∷ 0 ∷ []
+
+samples : List Sample
+samples =
+    -- the integrator: an addition in a loop through a cable
+    sample (3 ∷ 1 ∷ 0 ∷ cable ++ 11 ∷ 0 ∷ 1 ∷ []) (counts (1 ∷ 1 ∷ 3 ∷ 1 ∷ []))
+    ∷ sample (4 ∷ 4095 ∷ 0 ∷ []) (counts (2 ∷ 1 ∷ 1 ∷ 4096 ∷ []))
+    -- two cables merged onto one
+    ∷ sample (cable ++ cable ++ 8 ∷ 0 ∷ 1 ∷ cable ++ 10 ∷ 2 ∷ 3 ∷ []) (counts (2 ∷ 1 ∷ 1 ∷ 0 ∷ []))
+    -- a cut split onto nothing is no rule, since one side has no outputs and the other an input
+    ∷ sample (6 ∷ 0 ∷ 0 ∷ cable ++ 9 ∷ 0 ∷ 1 ∷ []) (refusedAt 7 2)
+    ∷ sample [] (refusedAt 3 0)
+    ∷ sample (5 ∷ []) (refusedAt 3 0)
+    ∷ sample (cable ++ 13 ∷ 0 ∷ 0 ∷ []) (refusedAt 4 1)
+    ∷ sample (3 ∷ 10 ∷ 0 ∷ []) (refusedAt 5 0)
+    ∷ sample (cable ++ 8 ∷ 0 ∷ 0 ∷ []) (refusedAt 6 1)
+    ∷ sample (cable ++ cable) (refusedAt 9 0)
+    ∷ []
+
+all-right : List Sample → Type 0
+all-right [] = Unit {0}
+all-right (s ∷ ss) = (checked 0 (s .table) ≡ s .answer) × all-right ss
+
+samples-right : all-right samples
+unfolding samples all-right checked operands
+samples-right = (refl, (refl, (refl, (refl, (refl, (refl, (refl, (refl, (refl, (refl, tt))))))))))
