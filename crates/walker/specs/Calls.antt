@@ -89,3 +89,14 @@ due n m k c =
     pick (blockOk n (c .ticks) (c .inputs) (c .controls))
     (pick (leb k (c .lent) and leb (c .ticks * m) (length (c .outputs))) (count (c .ticks * m)) (refusedAll 12))
     (refusedAll 14)
+
+-- a call of the circuit t of n nodes, cut after j of its ticks: "the cells after a tick are those that the list leaves when it is cut after that tick"
+abbrev pub cutAfter : ℕ → Tree → ℕ → Call → Call
+cutAfter n t j c = record {
+  ticks = j;
+  inputs = take (j * ins t) (c .inputs);
+  controls = c .controls;
+  outputs = c .outputs;
+  lent = c .lent;
+  work = λ cells. called (step (cellsBefore t) t) (ins t) (outs t) (cellsBefore t n) j (take (j * ins t) (c .inputs)) (c .controls) cells (c .outputs);
+}
