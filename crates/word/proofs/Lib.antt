@@ -4,3 +4,4 @@ pub mod Low
 pub mod Forms
 pub mod Exceptions
 pub mod Clocks
+pub mod OperandCounts

@@ -1,0 +1,172 @@
+-- A tick, instruction after instruction: what is left to execute, over the registers written so far.
+use Prim.Native.Nat.{ℕ, zero, suc, _+_, _-_, _*_, _≤_, _<_}
+use mathlib.Core.Path.{_≡_, sym, refl, ap, ap₂, _∙_}
+use mathlib.Core.Bool.{true}
+use mathlib.Core.List.{List, [], _∷_, _++_, append-assoc, append-nil}
+use native.Mathlib.Nat.{zero-add, add-zero, suc-add}
+use native.Mathlib.Omega.{arith}
+use lib.ListN.{length, set, take, drop, length-set, length-append, length-drop, length-replicate, drop-of-length-le}
+use lib.Seq.{drop-drop, take-suc-set, take-at, length-take-le}
+use Rattle.word.specs.Choice.{_and_}
+use Rattle.word.specs.Tick.{zeros}
+use Rattle.word.proofs.Lists.{first-true, second-true}
+use Rattle.flat.specs.Flat.{Instruction, width, Machine, machine, Effect, effect, worked, execute}
+use Rattle.flat.specs.Code.{header, instructionAt, instructionsOf, inputCount, instructionCount}
+use Rattle.flat.specs.Check.{instructionOk, instructionsOk}
+use Rattle.flat.specs.Steps.{Header, Workable, Steppable, Advanced, Ready}
+use Rattle.flat.proofs.Decoded.{code-instructions, instructions-next, ok-step}
+use Rattle.flat.proofs.Working.{works-below, skips-inside}
+
+-- execution, one instruction on
+execute-none : (controls : List ℕ) (m : Machine) → execute controls [] m ≡ m
+unfolding execute
+execute-none controls m = refl
+
+execute-first : (controls : List ℕ) (x : Instruction) (xs : List Instruction) (ρ cs cs′ : List ℕ) (v s : ℕ) → worked controls x ρ cs ≡ effect v s cs′
+    → execute controls (x ∷ xs) (machine ρ 0 cs) ≡ execute controls xs (machine (ρ ++ (v ∷ [])) s cs′)
+unfolding execute
+execute-first controls x xs ρ cs cs′ v s e = ap (λ (f : Effect). execute controls xs (machine (ρ ++ (f .value ∷ [])) (f .skip) (f .cells))) e
+
+execute-skipped : (controls : List ℕ) (x : Instruction) (xs : List Instruction) (ρ cs : List ℕ) (s : ℕ)
+    → execute controls (x ∷ xs) (machine ρ (suc s) cs) ≡ execute controls xs (machine (ρ ++ (0 ∷ [])) s cs)
+unfolding execute
+execute-skipped controls x xs ρ cs s = refl
+
+-- skipped instructions leave zeros
+skipped : (controls : List ℕ) (s k : ℕ) (ys ρ cs : List ℕ)
+    → execute controls (instructionsOf (s + k) ys) (machine ρ s cs) ≡ execute controls (instructionsOf k (drop (width * s) ys)) (machine (ρ ++ zeros s) 0 cs)
+skipped controls zero k ys ρ cs = rw (zero-add, append-nil)
+skipped controls (suc s) k ys ρ cs =
+    let z : width * suc s ≡ width + width * s = omega arith in
+    rw (suc-add, z)
+    (execute-skipped controls _ (instructionsOf (s + k) (drop width ys)) ρ cs s
+    ∙ skipped controls s k (drop width ys) (ρ ++ (0 ∷ [])) cs
+    ∙ ap₂ (λ l m. execute controls (instructionsOf k l) (machine m 0 cs)) (drop-drop (width * s) width ys) (append-assoc ρ (0 ∷ []) (zeros s)))
+
+ok-rest : (cells end r : ℕ) (x : Instruction) (xs : List Instruction) → instructionsOk cells end r (x ∷ xs) ≡ true → instructionsOk cells end (suc r) xs ≡ true
+unfolding instructionsOk
+ok-rest cells end r x xs e = second-true (instructionOk cells end r x) (instructionsOk cells end (suc r) xs) e
+
+ok-skipped : (cells end r s k : ℕ) (ys : List ℕ) → instructionsOk cells end r (instructionsOf (s + k) ys) ≡ true → instructionsOk cells end (r + s) (instructionsOf k (drop (width * s) ys)) ≡ true
+ok-skipped cells end r zero k ys e = rw add-zero (rw zero-add at e)
+ok-skipped cells end r (suc s) k ys e =
+    let z : width * suc s ≡ width + width * s = omega arith in
+    let y : r + suc s ≡ suc r + s = omega arith in
+    let f : instructionsOk cells end r (instructionsOf (suc (s + k)) ys) ≡ true = rw suc-add at e in
+    rw (z, y, ← drop-drop (width * s) width ys) (ok-skipped cells end (suc r) s k (drop width ys) (ok-rest cells end r _ _ f))
+
+-- registers of which those from `from` to `to` were cleared
+filled : (ρ ys zs : List ℕ) (from to s : ℕ) → to ≡ from + s → to ≤ length ρ → ys ≡ zeros s ++ drop s (take (to - from) (drop from ρ))
+    → take to (take from ρ ++ (ys ++ zs)) ≡ take from ρ ++ zeros s
+filled ρ ys zs from to s e h q =
+    let l : length (take from ρ) ≡ from = length-take-le from ρ (omega arith) in
+    let m : length (take (to - from) (drop from ρ)) ≡ s = length-take-le (to - from) (drop from ρ) (rw length-drop (omega arith)) ∙ difference from to s e in
+    let y : ys ≡ zeros s = q ∙ rw (nothing s (take (to - from) (drop from ρ)) m, append-nil) in
+    rw (y, ← append-assoc (take from ρ) (zeros s) zs)
+    (take-at (take from ρ ++ zeros s) zs to (length-append (take from ρ) (zeros s) ∙ ap₂ _+_ l (length-replicate s 0) ∙ sym e))
+  where
+    difference : (from to s : ℕ) → to ≡ from + s → to - from ≡ s
+    difference from to s e = omega arith
+
+    nothing : (n : ℕ) (l : List ℕ) → length l ≡ n → drop n l ≡ []
+    nothing n l e = drop-of-length-le l {i = n} (omega arith)
+
+-- one step: the instruction, its own register, and zeros for those that it skips
+module _ {x : Instruction} {controls : List ℕ} {own : ℕ} {ρ cs : List ℕ} (w : Steppable x controls own ρ cs) where
+  pub steppable-works : Workable x controls ρ cs
+  steppable-works = record { end = w .end; own = own; ok = w .ok; room = omega (arith, w .inside, w .room); sixteen = w .sixteen }
+
+  module _ {v s : ℕ} {cs₁ : List ℕ} (d : worked controls x ρ cs ≡ effect v s cs₁) where
+    pub skip-room : own + (1 + s) ≤ length ρ
+    skip-room =
+        let i = skips-inside (length cs) (w .end) own controls x ρ cs (w .ok) (w .inside) in
+        omega (arith, rw d at i, w .room)
+
+    pub advance : (ρ₂ ys zs : List ℕ) (from to : ℕ) → from ≡ own + 1 → to ≡ from + s
+        → ys ≡ zeros s ++ drop s (take (to - from) (drop from (set ρ own v))) → ρ₂ ≡ take from (set ρ own v) ++ (ys ++ zs)
+        → Advanced x controls own ρ cs s ρ₂ cs₁
+    advance ρ₂ ys zs from to ef et ey e₂ =
+        let l : own < length ρ = omega (arith, w .inside, w .room) in
+        let n : own + (1 + s) ≡ to = omega arith in
+        let f : from ≡ suc own = omega arith in
+        let t : to ≤ length (set ρ own v) = rw length-set (omega (arith, skip-room)) in
+        let a : take from (set ρ own v) ≡ take own ρ ++ (v ∷ []) = rw f (take-suc-set ρ own v l) in
+        record {
+          value = v;
+          does = works-below (length cs) (w .end) own controls x ρ cs (w .ok) ∙ d;
+          takes = rw (n, e₂) (filled (set ρ own v) ys zs from to s et t ey ∙ ap (λ l. l ++ zeros s) a ∙ append-assoc (take own ρ) (v ∷ []) (zeros s));
+        }
+
+-- what is left to do at register r, where the instructions stand from p on
+pub record Going (code controls : List ℕ) (target : Machine) (end p r : ℕ) (ρ cs : List ℕ) : Type 0 where
+  pub low : r ≤ end
+  pub place : p + width * (end - r) ≤ length code
+  pub room : end ≤ length ρ
+  pub sixteen : length controls ≡ 16
+  pub ok : instructionsOk (length cs) end r (instructionsOf (end - r) (drop p code)) ≡ true
+  pub same : execute controls (instructionsOf (end - r) (drop p code)) (machine (take r ρ) 0 cs) ≡ target
+
+module _ {code controls : List ℕ} {target : Machine} {end p r : ℕ} {ρ cs : List ℕ} (g : Going code controls target end p r ρ cs) where
+  pub arrived : end ≤ r → target ≡ machine (take end ρ) 0 cs
+  arrived h =
+      let e : r ≡ end = omega (arith, g .low) in
+      let z : end - r ≡ 0 = omega arith in
+      sym (g .same) ∙ rw (z, e) (execute-none controls (machine (take end ρ) 0 cs))
+
+  module _ (h : r < end) {x : Instruction} (i : x ≡ instructionAt code p) where
+    here-ok : instructionOk (length cs) end r x ≡ true
+    here-ok = rw i (first-true _ (instructionsOk (length cs) end (r + 1) (instructionsOf (end - (r + 1)) (drop (p + width) code))) (sym (ok-step (length cs) end r p code h) ∙ g .ok))
+
+    rest-ok : instructionsOk (length cs) end (r + 1) (instructionsOf (end - (r + 1)) (drop (p + width) code)) ≡ true
+    rest-ok = second-true (instructionOk (length cs) end r (instructionAt code p)) _ (sym (ok-step (length cs) end r p code h) ∙ g .ok)
+
+    pub steppable : Steppable x controls r ρ cs
+    steppable = record { end = end; ok = here-ok; inside = h; room = g .room; sixteen = g .sixteen }
+
+    module _ {s : ℕ} {ρ₂ cs₁ : List ℕ} (a : Advanced x controls r ρ cs s ρ₂ cs₁) where
+      inside : r + (1 + s) ≤ end
+      inside = rw (a .does) at (skips-inside (length cs) end r controls x (take r ρ) cs here-ok h)
+
+      -- the next register and the next place lie inside
+      pub next : (r + (1 + s) ≤ length ρ) × (p + (width + width * s) ≤ length code)
+      next = (omega (arith, inside, g .room), omega (arith, inside, g .place))
+
+      pub go-on : length ρ₂ ≡ length ρ → length cs₁ ≡ length cs → Going code controls target end (p + (width + width * s)) (r + (1 + s)) ρ₂ cs₁
+      go-on lr lc =
+          let b : r + (1 + s) ≤ end = inside in
+          let k : ℕ = end - (r + (1 + s)) in
+          let e₁ : end - r ≡ suc (s + k) = omega arith in
+          let e₂ : end - (r + 1) ≡ s + k = omega arith in
+          let e₃ : p + width + width * s ≡ p + (width + width * s) = omega arith in
+          let e₄ : r + 1 + s ≡ r + (1 + s) = omega arith in
+          let d : drop (width * s) (drop (p + width) code) ≡ drop (p + (width + width * s)) code = drop-drop (width * s) (p + width) code ∙ ap (λ n. drop n code) e₃ in
+          let o : instructionsOk (length cs) end (r + 1 + s) (instructionsOf k (drop (width * s) (drop (p + width) code))) ≡ true =
+          ok-skipped (length cs) end (r + 1) s k (drop (p + width) code) (rw e₂ at rest-ok) in
+          record {
+            low = b;
+            place = omega (arith, g .place);
+            room = omega (arith, g .room);
+            sixteen = g .sixteen;
+            ok = rw lc (rw (e₄, d) at o);
+            same =
+                ap₂ (λ l m. execute controls (instructionsOf k l) (machine m 0 cs₁)) (sym d) (a .takes ∙ sym (append-assoc (take r ρ) (a .value ∷ []) (zeros s)))
+                ∙ sym (skipped controls s k (drop (p + width) code) (take r ρ ++ (a .value ∷ [])) cs₁)
+                ∙ sym (execute-first controls x (instructionsOf (s + k) (drop (p + width) code)) (take r ρ) cs cs₁ (a .value) s (a .does))
+                ∙ ap (λ l. execute controls l (machine (take r ρ) 0 cs)) (ap {B = List Instruction} (λ y. y ∷ instructionsOf (s + k) (drop (p + width) code)) i ∙ sym (instructions-next (s + k) p code) ∙ ap (λ n. instructionsOf n (drop p code)) (sym e₁))
+                ∙ g .same;
+          }
+
+-- the first instruction
+pub begin : (code controls ρ cs : List ℕ) (n c : ℕ) → n ≡ inputCount code → c ≡ instructionCount code → Ready code controls ρ cs
+    → Going code controls (execute controls (instructionsOf (instructionCount code) (drop header code)) (machine (take (inputCount code) ρ) 0 cs)) (n + c) header n ρ cs
+begin code controls ρ cs n c en ec r =
+    let h : Header code = r .checked .head in
+    let z : n + c - n ≡ c = omega arith in
+    record {
+      low = omega arith;
+      place = omega (arith, h .long);
+      room = omega (arith, h .ins, h .count, r .room);
+      sixteen = r .sixteen;
+      ok = rw (z, r .all, en, ec) (code-instructions code (r .checked .ok));
+      same = rw (z, en, ec);
+    }

@@ -1,0 +1,160 @@
+-- One instruction: what its check says of it, row by row of the table, and what follows for its effect.
+use Prim.Native.Nat.{ℕ, suc, _+_, _≤_, _<_}
+use mathlib.Core.Path.{_≡_, refl, sym, _∙_, subst}
+use mathlib.Core.Bool.{Bool, true, false, false≢true}
+use mathlib.Core.List.{List}
+use native.Mathlib.Omega.{arith}
+use borrow.Author.Tests.{leb-true, eqb-true, ltb-true, ne-eqb}
+use lib.Dec.{eqb, leb, ltb}
+use lib.ListN.{length, getD, take}
+use lib.Seq.{getD-take}
+use Rattle.word.specs.Choice.{_and_, pick}
+use Rattle.word.specs.Operation.{operate, operands, demand}
+use Rattle.flat.specs.Flat.{Instruction, instruction, worked}
+use Rattle.flat.specs.Check.{instructionOk}
+use Rattle.flat.specs.Steps.{Workable}
+use Rattle.flat.proofs.Decoded.{four}
+
+-- an operation that has not two inputs does not look at the second
+module _ (op : ℕ) (e : eqb (operands op) 2 ≡ false) where
+  other : (k : ℕ) → eqb (operands k) 2 ≡ true → eqb op k ≡ false
+  other k t = ne-eqb op k (λ q. false≢true (sym (rw q at e) ∙ t))
+
+  alone : (x y z : ℕ) → operate op x y ≡ operate op x z
+  unfolding operate operands
+  alone x y z = simp (other 1 refl, other 2 refl, other 3 refl, other 4 refl, other 5 refl, other 6 refl, other 7 refl)
+
+pub operate-pick : (op x y : ℕ) → operate op x (pick (eqb (operands op) 2) y 0) ≡ operate op x y
+operate-pick op x y = go (eqb (operands op) 2) refl
+  where
+    go : (t : Bool) → eqb (operands op) 2 ≡ t → operate op x (pick t y 0) ≡ operate op x y
+    go true e = refl
+    go false e = alone op e x 0 y
+
+-- the rows of the table, by their codes
+pub data Row : ℕ → Type 0 where
+  number : Row 1
+  control : Row 2
+  operation : Row 3
+  delay : Row 4
+  read : Row 5
+  write : Row 6
+  skip : Row 7
+
+either : (k n : ℕ) → Row n → (eqb k n ≡ false → Row k) → Row k
+either k n p q = go (eqb k n) refl
+  where
+    go : (t : Bool) → eqb k n ≡ t → Row k
+    go true e = subst Row (sym (eqb-true k n e)) p
+    go false e = q e
+
+-- a code that passes is one of the table's
+pub row : (cells end r k a b c d : ℕ) → instructionOk cells end r (instruction k a b c d) ≡ true → Row k
+unfolding instructionOk
+row cells end r k a b c d h =
+    either k 1 number (λ n1. either k 2 control (λ n2. either k 3 operation (λ n3. either k 4 delay (λ n4. either k 5 read (λ n5. either k 6 write (λ n6. either k 7 skip (λ n7.
+    absurd (false≢true (simp (n1, n2, n3, n4, n5, n6, n7) at h)))))))))
+
+-- where it is none of the first six, it is the last
+pub last-row : {k : ℕ} → Row k → (k ≡ 1 → ⊥) → (k ≡ 2 → ⊥) → (k ≡ 3 → ⊥) → (k ≡ 4 → ⊥) → (k ≡ 5 → ⊥) → (k ≡ 6 → ⊥) → k ≡ 7
+last-row number n1 n2 n3 n4 n5 n6 = absurd (n1 refl)
+last-row control n1 n2 n3 n4 n5 n6 = absurd (n2 refl)
+last-row operation n1 n2 n3 n4 n5 n6 = absurd (n3 refl)
+last-row delay n1 n2 n3 n4 n5 n6 = absurd (n4 refl)
+last-row read n1 n2 n3 n4 n5 n6 = absurd (n5 refl)
+last-row write n1 n2 n3 n4 n5 n6 = absurd (n6 refl)
+last-row skip n1 n2 n3 n4 n5 n6 = refl
+
+-- what the check says, row by row
+module _ (cells end r k a b c d : ℕ) (h : instructionOk cells end r (instruction k a b c d) ≡ true) where
+  says2 : k ≡ 2 → a < 16
+  unfolding instructionOk
+  says2 e = ltb-true _ _ (four (ltb a 16) (eqb b 0) (eqb c 0) (eqb d 0) (rw e at h) .0)
+
+  says3 : k ≡ 3 → (b < r) × (c < r)
+  unfolding instructionOk
+  says3 e =
+      let q = four (ltb 0 (operands a)) (ltb b r) (pick (eqb (operands a) 2) (ltb c r) (eqb c 0)) (eqb d 0) (rw e at h) in
+      let l : b < r = ltb-true _ _ (q .1 .0) in
+      (l, go (eqb (operands a) 2) l (q .1 .1 .0))
+    where
+      go : (t : Bool) → b < r → pick t (ltb c r) (eqb c 0) ≡ true → c < r
+      go true l e = ltb-true c r e
+      go false l e = omega (arith, eqb-true c 0 e)
+
+  says4 : k ≡ 4 → (a < r) × ((b < r) × ((d ≤ 4095) × (c + suc d ≤ cells)))
+  unfolding instructionOk
+  says4 e =
+      let q = four (ltb a r) (ltb b r) (leb d 4095) (leb (c + suc d) cells) (rw e at h) in
+      (ltb-true _ _ (q .0), (ltb-true _ _ (q .1 .0), (leb-true _ _ (q .1 .1 .0), leb-true _ _ (q .1 .1 .1))))
+
+  says5 : k ≡ 5 → a < cells
+  unfolding instructionOk
+  says5 e = ltb-true _ _ (four (ltb a cells) (eqb b 0) (eqb c 0) (eqb d 0) (rw e at h) .0)
+
+  says6 : k ≡ 6 → (a < cells) × (b < r)
+  unfolding instructionOk
+  says6 e =
+      let q = four (ltb a cells) (ltb b r) (eqb c 0) (eqb d 0) (rw e at h) in
+      (ltb-true _ _ (q .0), ltb-true _ _ (q .1 .0))
+
+  says7 : k ≡ 7 → (a < r) × (suc (r + b) ≤ end)
+  unfolding instructionOk
+  says7 e =
+      let q = four (ltb a r) (leb (suc (r + b)) end) (eqb c 0) (eqb d 0) (rw e at h) in
+      (ltb-true _ _ (q .0), leb-true _ _ (q .1 .0))
+
+-- "a register .. not below the instruction's own": what lies from there on makes no difference
+pub works-below : (cells end r : ℕ) (controls : List ℕ) (x : Instruction) (ρ cs : List ℕ) → instructionOk cells end r x ≡ true → worked controls x (take r ρ) cs ≡ worked controls x ρ cs
+unfolding worked
+works-below cells end r controls x ρ cs h = go (x .a) (x .b) (x .c) (x .d) (row cells end r (x .code) (x .a) (x .b) (x .c) (x .d) h) h
+  where
+    go : {k : ℕ} (a b c d : ℕ) → Row k → instructionOk cells end r (instruction k a b c d) ≡ true → worked controls (instruction k a b c d) (take r ρ) cs ≡ worked controls (instruction k a b c d) ρ cs
+    go a b c d number h = refl
+    go a b c d control h = refl
+    go a b c d operation h = let o = says3 cells end r 3 a b c d h refl in rw (getD-take r ρ b 0 (o .0), getD-take r ρ c 0 (o .1))
+    go a b c d delay h = let o = says4 cells end r 4 a b c d h refl in rw (getD-take r ρ a 0 (o .0), getD-take r ρ b 0 (o .1 .0))
+    go a b c d read h = refl
+    go a b c d write h = rw (getD-take r ρ b 0 (says6 cells end r 6 a b c d h refl .1))
+    go a b c d skip h = rw (getD-take r ρ a 0 (says7 cells end r 7 a b c d h refl .0))
+
+-- not "past the end": what it skips lies before the end
+pub skips-inside : (cells end r : ℕ) (controls : List ℕ) (x : Instruction) (ρ cs : List ℕ) → instructionOk cells end r x ≡ true → r < end → r + (1 + worked controls x ρ cs .skip) ≤ end
+unfolding worked
+skips-inside cells end r controls x ρ cs h l = go (x .a) (x .b) (x .c) (x .d) (row cells end r (x .code) (x .a) (x .b) (x .c) (x .d) h) h
+  where
+    go : {k : ℕ} (a b c d : ℕ) → Row k → instructionOk cells end r (instruction k a b c d) ≡ true → r + (1 + worked controls (instruction k a b c d) ρ cs .skip) ≤ end
+    go a b c d number h = omega arith
+    go a b c d control h = omega arith
+    go a b c d operation h = omega arith
+    go a b c d delay h = omega arith
+    go a b c d read h = omega arith
+    go a b c d write h = omega arith
+    go a b c d skip h = either-way (demand (getD ρ a 0)) (says7 cells end r 7 a b c d h refl .1)
+      where
+        either-way : (t : Bool) → suc (r + b) ≤ end → r + (1 + pick t 0 b) ≤ end
+        either-way true m = omega arith
+        either-way false m = omega arith
+
+-- the same where it is worked: the places that it reads and writes are there
+module _ {x : Instruction} {controls ρ cs : List ℕ} (w : Workable x controls ρ cs) where
+  pub control-there : x .code ≡ 2 → x .a < length controls
+  control-there e = omega (arith, says2 _ _ _ _ _ _ _ _ (w .ok) e, w .sixteen)
+
+  pub operands-there : x .code ≡ 3 → (x .b < length ρ) × (x .c < length ρ)
+  operands-there e = let o = says3 _ _ _ _ _ _ _ _ (w .ok) e in (omega (arith, o .0, w .room), omega (arith, o .1, w .room))
+
+  pub delay-there : x .code ≡ 4 → (x .a < length ρ) × ((x .b < length ρ) × ((x .d ≤ 4095) × (x .c + suc (x .d) ≤ length cs)))
+  delay-there e = let o = says4 _ _ _ _ _ _ _ _ (w .ok) e in (omega (arith, o .0, w .room), (omega (arith, o .1 .0, w .room), o .1 .1))
+
+  pub cell-there : x .code ≡ 5 → x .a < length cs
+  cell-there e = says5 _ _ _ _ _ _ _ _ (w .ok) e
+
+  pub write-there : x .code ≡ 6 → (x .a < length cs) × (x .b < length ρ)
+  write-there e = let o = says6 _ _ _ _ _ _ _ _ (w .ok) e in (o .0, omega (arith, o .1, w .room))
+
+  pub clock-there : x .code ≡ 7 → x .a < length ρ
+  clock-there e = omega (arith, says7 _ _ _ _ _ _ _ _ (w .ok) e .0, w .room)
+
+  pub workable-row : Row (x .code)
+  workable-row = row _ _ _ _ _ _ _ _ (w .ok)

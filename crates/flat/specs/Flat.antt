@@ -1,0 +1,75 @@
+-- Flat code: instructions, and what they do to registers and cells in one tick.
+use Prim.Native.Nat.{ℕ, zero, suc}
+use mathlib.Core.List.{List, [], _∷_, _++_, map}
+use lib.ListN.{getD, set}
+use lib.Dec.{eqb}
+use Rattle.word.specs.Choice.{pick}
+use Rattle.word.specs.Operation.{operate, operands, demand}
+use Rattle.cells.specs.Delay.{delayed, moved}
+
+-- "instructions of five numbers": the code and its operands in the table's order
+pub record Instruction : Type 0 where
+  pub code : ℕ
+  pub a : ℕ
+  pub b : ℕ
+  pub c : ℕ
+  pub d : ℕ
+
+abbrev pub instruction : ℕ → ℕ → ℕ → ℕ → ℕ → Instruction
+instruction k x y z w = record { code = k; a = x; b = y; c = z; d = w }
+
+-- how many numbers an instruction has
+abbrev pub width : ℕ
+width = 5
+
+-- within a tick: the registers written so far, how many instructions are still to be skipped, and the cells.
+-- A register that is not yet written reads 0: "At the start of a tick those are 0".
+pub record Machine : Type 0 where
+  pub registers : List ℕ
+  pub skip : ℕ
+  pub cells : List ℕ
+
+abbrev pub machine : List ℕ → ℕ → List ℕ → Machine
+machine ρ s cs = record { registers = ρ; skip = s; cells = cs }
+
+-- what one instruction does: the value of its register, the skip and the cells after it
+pub record Effect : Type 0 where
+  pub value : ℕ
+  pub skip : ℕ
+  pub cells : List ℕ
+
+abbrev pub effect : ℕ → ℕ → List ℕ → Effect
+effect v s cs = record { value = v; skip = s; cells = cs }
+
+-- The table of codes, over registers ρ and cells cs, for an instruction that is not skipped:
+-- 1 "number", 2 "control", 3 "operation; a one-input op has 0 for the last", 4 "delay", 5 "read", 6 "write",
+-- 7 "skips the next instructions, count many, unless the register is 1"; "codes 6 and 7 write 0".
+unfoldable pub worked : List ℕ → Instruction → List ℕ → List ℕ → Effect
+worked controls x ρ cs =
+    let reg : ℕ → ℕ = λ r. getD ρ r 0 in
+    pick (eqb (x .code) 1) (effect (x .a) 0 cs)
+    (pick (eqb (x .code) 2) (effect (getD controls (x .a) 0) 0 cs)
+    (pick (eqb (x .code) 3) (effect (operate (x .a) (reg (x .b)) (pick (eqb (operands (x .a)) 2) (reg (x .c)) 0)) 0 cs)
+    (pick (eqb (x .code) 4) (effect (delayed (x .c) (x .d) (reg (x .a)) (reg (x .b)) cs) 0 (moved (x .c) (x .d) (reg (x .a)) cs))
+    (pick (eqb (x .code) 5) (effect (getD cs (x .a) 0) 0 cs)
+    (pick (eqb (x .code) 6) (effect 0 0 (set cs (x .a) (reg (x .b))))
+    (effect 0 (pick (demand (reg (x .a))) 0 (x .b)) cs))))))
+
+-- one instruction, skipped or not; a skipped one leaves 0 in its register
+abbrev pub acted : List ℕ → Instruction → List ℕ → ℕ → List ℕ → Effect
+acted controls x ρ zero cs = worked controls x ρ cs
+acted controls x ρ (suc s) cs = effect 0 s cs
+
+-- "instruction i writes register n+i": each appends one register
+abbrev pub execute1 : List ℕ → Instruction → Machine → Machine
+execute1 controls x m =
+    let e = acted controls x (m .registers) (m .skip) (m .cells) in
+    machine (m .registers ++ (e .value ∷ [])) (e .skip) (e .cells)
+
+unfoldable pub execute : List ℕ → List Instruction → Machine → Machine
+execute controls [] m = m
+execute controls (x ∷ xs) m = execute controls xs (execute1 controls x m)
+
+-- what the registers rs hold
+abbrev pub held : List ℕ → List ℕ → List ℕ
+held ρ rs = map (λ (r : ℕ). getD ρ r 0) rs

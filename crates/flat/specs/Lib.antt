@@ -1,0 +1,5 @@
+pub mod Flat
+pub mod Code
+pub mod Check
+pub mod Run
+pub mod Steps

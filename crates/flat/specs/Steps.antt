@@ -1,0 +1,66 @@
+-- What the functions inside a run ask of each other and promise; the contract of the run itself cites none of this.
+use Prim.Native.Nat.{ℕ, _+_, _*_, _≤_, _<_}
+use mathlib.Core.Path.{_≡_}
+use mathlib.Core.Bool.{true}
+use mathlib.Core.List.{List, _∷_, _++_}
+use lib.ListN.{length, take}
+use Rattle.word.specs.Tick.{zeros}
+use Rattle.flat.specs.declared.format.Instruction.{Instruction as Listed}
+use Rattle.flat.specs.Flat.{Instruction, instruction, effect, worked}
+use Rattle.flat.specs.Code.{resultsAt, inputCount, outputCount, instructionCount, cellCount}
+use Rattle.flat.specs.Check.{instructionOk, codeOk}
+
+-- an instruction as the code holds it
+abbrev pub listed : Listed → Instruction
+listed x = instruction (x .code) (x .a) (x .b) (x .c) (x .d)
+
+-- what the header's check shows
+pub record Header (xs : List ℕ) : Type 0 where
+  pub ins : inputCount xs ≤ 32
+  pub outs : outputCount xs ≤ 32
+  pub count : instructionCount xs ≤ 2048
+  pub cells : cellCount xs ≤ 16384
+  pub long : length xs ≡ resultsAt (instructionCount xs) + outputCount xs
+
+-- a code that passed the check
+pub record Checked (code : List ℕ) : Type 0 where
+  pub ok : codeOk code ≡ true
+  pub head : Header code
+
+-- an instruction passed the check, and every register below its own is there
+pub record Workable (x : Instruction) (controls registers cells : List ℕ) : Type 0 where
+  pub end : ℕ
+  pub own : ℕ
+  pub ok : instructionOk (length cells) end own x ≡ true
+  pub room : own ≤ length registers
+  pub sixteen : length controls ≡ 16
+
+-- the same for its own register and those of the instructions that it may skip
+pub record Steppable (x : Instruction) (controls : List ℕ) (own : ℕ) (registers cells : List ℕ) : Type 0 where
+  pub end : ℕ
+  pub ok : instructionOk (length cells) end own x ≡ true
+  pub inside : own < end
+  pub room : end ≤ length registers
+  pub sixteen : length controls ≡ 16
+
+-- it worked on the registers below its own: they are now followed by its value and by zeros for the s that it skips
+pub record Advanced (x : Instruction) (controls : List ℕ) (own : ℕ) (registers cells : List ℕ) (s : ℕ) (registers′ cells′ : List ℕ) : Type 0 where
+  pub value : ℕ
+  pub does : worked controls x (take own registers) cells ≡ effect value s cells′
+  pub takes : take (own + (1 + s)) registers′ ≡ take own registers ++ (value ∷ zeros s)
+
+-- a code that passed the check, with what a tick works on
+pub record Ready (code controls registers cells : List ℕ) : Type 0 where
+  pub checked : Checked code
+  pub room : 2080 ≤ length registers
+  pub all : length cells ≡ cellCount code
+  pub sixteen : length controls ≡ 16
+
+-- a call that rows 13, 14 and 12 let pass, with the cells and the outputs that it needs and no more
+pub record Playable (code : List ℕ) (ticks : ℕ) (inputs controls cells outputs : List ℕ) : Type 0 where
+  pub checked : Checked code
+  pub few : ticks ≤ 4096
+  pub ins : length inputs ≡ ticks * inputCount code
+  pub outs : length outputs ≡ ticks * outputCount code
+  pub all : length cells ≡ cellCount code
+  pub sixteen : length controls ≡ 16

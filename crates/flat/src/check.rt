@@ -1,0 +1,118 @@
+// The check of a code, refusal 13.
+use crate::format::HEADER;
+use crate::format::Instruction;
+use crate::format::WIDTH;
+use crate::format::instruction_at;
+use word::index;
+use word::operands;
+ghost use mathlib.Core.Path.{_≡_};
+ghost use Prim.Native.Nat.{_+_, _<_, _≤_};
+ghost use lib.ListN.{length, drop};
+ghost use lib.Dec.{eqb, leb, ltb};
+ghost use Rattle.word.specs.Choice.{_and_, pick};
+ghost use Rattle.word.specs.Operation.{operands as operandsOf};
+ghost use Rattle.flat.specs.Code.{header, resultsAt, instructionsOf, inputCount, instructionCount, decode};
+ghost use Rattle.flat.specs.Check.{allBelow, instructionOk, instructionsOk, headerOk, bodyOk, codeOk};
+ghost use Rattle.flat.specs.Steps.{listed, Header};
+
+// Unused numbers are 0.
+fn unused(b: u32, c: u32, d: u32) -> bool
+    ensures { λ r. ⌜ r ≡ (eqb b 0 and eqb c 0 and eqb d 0) ⌝ }
+{
+    b == 0 && (c == 0 && d == 0)
+}
+
+// An operation: the table of operand counts knows it; as many registers as the table says; 0 for the others.
+fn operation_ok(op: u32, b: u32, c: u32, d: u32, own: u32) -> bool
+    ensures { λ r. ⌜ r ≡ (ltb 0 (operandsOf op) and ltb b own and pick (eqb (operandsOf op) 2) (ltb c own) (eqb c 0) and eqb d 0) ⌝ }
+{
+    let count = operands(op);
+    if count == 2 {
+        return b < own && (c < own && d == 0);
+    }
+    0 < count && (b < own && (c == 0 && d == 0))
+}
+
+// The instruction, whose own register is `own`.
+fn instruction_ok(x: Instruction, cells: u32, end: u32, own: u32) -> bool
+    ensures { λ r. ⌜ r ≡ instructionOk cells end own (listed x) ⌝ }
+{
+    let code = x.code;
+    match code {
+        1 => unused(x.b, x.c, x.d),
+        2 => x.a < 16 && unused(x.b, x.c, x.d),
+        3 => operation_ok(x.a, x.b, x.c, x.d, own),
+        4 => {
+            x.a < own
+                && (x.b < own && (x.d <= 4095 && index(x.c) + (index(x.d) + 1) <= index(cells)))
+        }
+        5 => x.a < cells && unused(x.b, x.c, x.d),
+        6 => x.a < cells && (x.b < own && unused(0, x.c, x.d)),
+        7 => x.a < own && (index(own) + index(x.b) < index(end) && unused(0, x.c, x.d)),
+        _ => false,
+    }
+}
+
+// The header: its bounds, and the length that it calls for.
+fn header_ok(code: &[u32]) -> bool
+    ensures { λ r. ⌜ r ≡ headerOk (now (code .entry)) ⌝ }
+{
+    if code.len() < HEADER {
+        return false;
+    }
+    code[0] <= 32
+        && (code[1] <= 32
+            && (code[2] <= 2048
+                && (code[3] <= 16384
+                    && code.len() == HEADER + WIDTH * index(code[2]) + index(code[1]))))
+}
+
+// The first count instructions, of which the first writes register `first`.
+fn instructions_ok(code: &[u32], count: u32, cells: u32, first: u32) -> bool
+    requires { ⌜ (resultsAt count ≤ length (now code)) × ((count ≤ 2048) × (first ≤ 32)) ⌝ }
+    ensures { λ r. ⌜ r ≡ instructionsOk cells (first + count) first (instructionsOf count (drop header (now (code .entry)))) ⌝ }
+{
+    let end = first + count;
+    let mut p: usize = HEADER;
+    let mut own: u32 = first;
+    while own < end {
+        if !instruction_ok(instruction_at(code, p), cells, end, own) {
+            return false;
+        }
+        p += WIDTH;
+        own += 1;
+    }
+    true
+}
+
+// The output registers, the numbers of the code from `from` on.
+fn results_ok(code: &[u32], from: usize, end: u32) -> bool
+    requires { ⌜ from ≤ length (now code) ⌝ }
+    ensures { λ r. ⌜ r ≡ allBelow end (drop from (now (code .entry))) ⌝ }
+{
+    let mut i: usize = from;
+    while i < code.len() {
+        if code[i] >= end {
+            return false;
+        }
+        i += 1;
+    }
+    true
+}
+
+// The instructions and the output registers of a code whose header is right.
+fn body_ok(code: &[u32]) -> bool
+    requires { ⌜ Header (now code) ⌝ }
+    ensures { λ r. ⌜ r ≡ bodyOk (inputCount (now (code .entry)) + instructionCount (now (code .entry))) (decode (now (code .entry))) ⌝ }
+{
+    let n = code[0];
+    let c = code[2];
+    instructions_ok(code, c, code[3], n) && results_ok(code, HEADER + WIDTH * index(c), n + c)
+}
+
+// Does row 13 let the code pass?
+pub fn code_ok(code: &[u32]) -> bool
+    ensures { λ r. ⌜ r ≡ codeOk (now (code .entry)) ⌝ }
+{
+    header_ok(code) && body_ok(code)
+}

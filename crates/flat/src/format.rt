@@ -1,0 +1,36 @@
+// The format of flat code: a header, instructions of so many numbers each, and the output registers.
+ghost use mathlib.Core.Path.{_≡_};
+ghost use Prim.Native.Nat.{_+_, _≤_};
+ghost use lib.ListN.{length};
+ghost use Rattle.flat.specs.Flat.{width};
+ghost use Rattle.flat.specs.Code.{instructionAt};
+ghost use Rattle.flat.specs.Steps.{listed};
+
+// The numbers of an instruction.
+pub const WIDTH: usize = 5;
+
+// The numbers before the first instruction.
+pub const HEADER: usize = 4;
+
+// One instruction: its code and its operands.
+pub struct Instruction {
+    pub code: u32,
+    pub a: u32,
+    pub b: u32,
+    pub c: u32,
+    pub d: u32,
+}
+
+// The instruction that stands at p.
+pub fn instruction_at(code: &[u32], p: usize) -> Instruction
+    requires { ⌜ p + width ≤ length (now code) ⌝ }
+    ensures { λ r. ⌜ listed r ≡ instructionAt (now (code .entry)) p ⌝ }
+{
+    Instruction {
+        code: code[p],
+        a: code[p + 1],
+        b: code[p + 2],
+        c: code[p + 3],
+        d: code[p + 4],
+    }
+}

@@ -1,0 +1,121 @@
+// Flat code: its check and its runner.
+mod check;
+mod format;
+mod machine;
+mod tick;
+
+use check::code_ok;
+use refusal::Refusal;
+use tick::run_tick;
+use word::index;
+ghost use mathlib.Core.Path.{_≡_};
+ghost use Prim.Native.Nat.{_≤_};
+ghost use Rattle.word.specs.Tick.{stepped};
+ghost use Rattle.cells.specs.Block.{ticksOf, played, blockOk};
+ghost use Rattle.flat.specs.Code.{inputCount, decode, codeTick};
+ghost use Rattle.flat.specs.Run.{answerOf, ranAs, checks, ran};
+ghost use Rattle.flat.specs.Steps.{Checked, Playable};
+
+// Does row 14 let a call pass that is for n inputs a tick?
+fn block_ok(n: u32, ticks: u32, inputs: &[u32], controls: &[u32]) -> bool
+    requires { ⌜ n ≤ 32 ⌝ }
+    ensures { λ r. ⌜ r ≡ blockOk n ticks (now (inputs .entry)) (now (controls .entry)) ⌝ }
+{
+    ticks <= 4096 && (inputs.len() == index(ticks) * index(n) && controls.len() == 16)
+}
+
+// The ticks of a call that is not refused, one after another, on the cells and the outputs that it needs and no more.
+fn play(
+    code: &[u32],
+    ticks: usize,
+    inputs: &[u32],
+    controls: &[u32],
+    cells: &mut [u32],
+    outputs: &mut [u32],
+)
+    requires { ⌜ Playable (now code) ticks (now inputs) (now controls) (now cells) (now outputs) ⌝ }
+    ensures { λ _. ⌜ played (codeTick (decode (now (code .entry)))) (ticksOf (inputCount (now (code .entry))) (now (controls .entry)) ticks (now (inputs .entry))) (now (cells .entry))
+        ≡ stepped (now (outputs .exit)) (now (cells .exit)) ⌝ }
+{
+    let n = index(code[0]);
+    let m = index(code[1]);
+    let mut registers = [0u32; 2080];
+    let mut left: usize = ticks;
+    let mut a: usize = 0;
+    let mut b: usize = 0;
+    while 0 < left {
+        let a2 = a + n;
+        let b2 = b + m;
+        run_tick(
+            code,
+            controls,
+            &inputs[a..a2],
+            &mut registers,
+            cells,
+            &mut outputs[b..b2],
+        );
+        a = a2;
+        b = b2;
+        left -= 1;
+    }
+}
+
+// The count of output samples that a call calls for, or its refusal.
+pub enum RunAnswer {
+    Samples(u32),
+    Refused(Refusal),
+}
+
+// A call of a code that passed the check: refusal 14, then 12; else its ticks.
+fn run_checked(
+    code: &[u32],
+    ticks: u32,
+    inputs: &[u32],
+    controls: &[u32],
+    cells: &mut [u32],
+    outputs: &mut [u32],
+) -> RunAnswer
+    requires { ⌜ Checked (now code) ⌝ }
+    ensures { λ r. ⌜ ranAs (answerOf r) (now (cells .exit)) (now (outputs .exit))
+        ≡ checks (decode (now (code .entry))) ticks (now (inputs .entry)) (now (controls .entry)) (now (cells .entry)) (now (outputs .entry)) ⌝ }
+{
+    if !block_ok(code[0], ticks, inputs, controls) {
+        return RunAnswer::Refused(Refusal::WrongBlock);
+    }
+    let count = index(code[3]);
+    if cells.len() < count {
+        return RunAnswer::Refused(Refusal::ShortBuffer);
+    }
+    let t = index(ticks);
+    let total = t * index(code[1]);
+    if outputs.len() < total {
+        return RunAnswer::Refused(Refusal::ShortBuffer);
+    }
+    play(
+        code,
+        t,
+        inputs,
+        controls,
+        &mut cells[..count],
+        &mut outputs[..total],
+    );
+    RunAnswer::Samples(total as u32)
+}
+
+// One call, with any numbers as code: refusal 13, then 14, then 12; else its output samples, and the cells after them.
+pub fn run(
+    code: &[u32],
+    ticks: u32,
+    inputs: &[u32],
+    controls: &[u32],
+    cells: &mut [u32],
+    outputs: &mut [u32],
+) -> RunAnswer
+    ensures { λ r. ⌜ ranAs (answerOf r) (now (cells .exit)) (now (outputs .exit))
+        ≡ ran (now (code .entry)) ticks (now (inputs .entry)) (now (controls .entry)) (now (cells .entry)) (now (outputs .entry)) ⌝ }
+{
+    if !code_ok(code) {
+        return RunAnswer::Refused(Refusal::WrongCode);
+    }
+    run_checked(code, ticks, inputs, controls, cells, outputs)
+}

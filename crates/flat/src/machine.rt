@@ -1,0 +1,113 @@
+// The machine: what instructions do to registers and cells in one tick.
+use crate::format::HEADER;
+use crate::format::Instruction;
+use crate::format::WIDTH;
+use crate::format::instruction_at;
+use cells::clear;
+use cells::delay_at;
+use word::demand;
+use word::index;
+use word::operate;
+ghost use mathlib.Core.Path.{_≡_};
+ghost use Prim.Native.Nat.{_+_};
+ghost use lib.ListN.{take, drop};
+ghost use Rattle.flat.specs.Flat.{worked, effect, machine, execute as executeOf};
+ghost use Rattle.flat.specs.Code.{header, instructionsOf, inputCount, instructionCount};
+ghost use Rattle.flat.specs.Steps.{listed, Workable, Steppable, Advanced, Ready};
+
+// What an instruction gives: the value of its register, and how many instructions are to be skipped after it.
+struct Effect {
+    value: u32,
+    skip: usize,
+}
+
+// One instruction that is not skipped.
+fn work(x: Instruction, controls: &[u32], registers: &[u32], cells: &mut [u32]) -> Effect
+    requires { ⌜ Workable (listed x) (now controls) (now registers) (now cells) ⌝ }
+    ensures { λ r. ⌜ worked (now (controls .entry)) (listed x) (now (registers .entry)) (now (cells .entry)) ≡ effect (r .value) (r .skip) (now (cells .exit)) ⌝ }
+{
+    let code = x.code;
+    let a = index(x.a);
+    let b = index(x.b);
+    match code {
+        1 => {
+            return Effect {
+                value: x.a,
+                skip: 0,
+            };
+        }
+        2 => {
+            return Effect {
+                value: controls[a],
+                skip: 0,
+            };
+        }
+        3 => {
+            let c = index(x.c);
+            return Effect {
+                value: operate(x.a, registers[b], registers[c]),
+                skip: 0,
+            };
+        }
+        4 => {
+            let delayed = delay_at(cells, index(x.c), index(x.d), registers[a], registers[b]);
+            return Effect {
+                value: delayed.value,
+                skip: 0,
+            };
+        }
+        5 => {
+            return Effect {
+                value: cells[a],
+                skip: 0,
+            };
+        }
+        6 => {
+            cells[a] = registers[b];
+            return Effect { value: 0, skip: 0 };
+        }
+        _ => {
+            if demand(registers[a]) {
+                return Effect { value: 0, skip: 0 };
+            }
+            return Effect { value: 0, skip: b };
+        }
+    }
+}
+
+// One instruction: its own register, and zeros for the instructions that it skips, which it counts.
+fn step(
+    x: Instruction,
+    controls: &[u32],
+    own: usize,
+    registers: &mut [u32],
+    cells: &mut [u32],
+) -> usize
+    requires { ⌜ Steppable (listed x) (now controls) own (now registers) (now cells) ⌝ }
+    ensures { λ s. ⌜ Advanced (listed x) (now (controls .entry)) own (now (registers .entry)) (now (cells .entry)) s (now (registers .exit)) (now (cells .exit)) ⌝ }
+{
+    let given = work(x, controls, registers, cells);
+    let skip = given.skip;
+    registers[own] = given.value;
+    let from = own + 1;
+    let to = from + skip;
+    clear(&mut registers[from..to], skip);
+    skip
+}
+
+// The instructions of a code, over registers of which the first hold the inputs.
+pub fn execute(code: &[u32], controls: &[u32], registers: &mut [u32], cells: &mut [u32])
+    requires { ⌜ Ready (now code) (now controls) (now registers) (now cells) ⌝ }
+    ensures { λ _. ⌜ executeOf (now (controls .entry)) (instructionsOf (instructionCount (now (code .entry))) (drop header (now (code .entry)))) (machine (take (inputCount (now (code .entry))) (now (registers .entry))) 0 (now (cells .entry)))
+        ≡ machine (take (inputCount (now (code .entry)) + instructionCount (now (code .entry))) (now (registers .exit))) 0 (now (cells .exit)) ⌝ }
+{
+    let first = index(code[0]);
+    let end = first + index(code[2]);
+    let mut p: usize = HEADER;
+    let mut own: usize = first;
+    while own < end {
+        let skip = step(instruction_at(code, p), controls, own, registers, cells);
+        p += WIDTH + WIDTH * skip;
+        own += 1 + skip;
+    }
+}
