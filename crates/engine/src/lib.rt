@@ -1,0 +1,1 @@
+// What is true of all parts together: laws.
