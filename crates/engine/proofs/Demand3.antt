@@ -35,9 +35,10 @@ module _ (n : ℕ) (t : Tree) (w : WellFormed t) (c : Complete n t) (small : Sma
   unfolding OnlyOf events
   runs-only block [] o = tt
   runs-only block (r ∷ rs) (inl e, o) = (inl (own-run r e), runs-only (blockAfter (callOf r) block) rs o)
-  runs-only block (r ∷ rs) (inr (x, p, e), o) =
-      (inr (record { number = x; place = p; nothing = refused-nothing (r .code) (r .ticks) (r .inputs) (r .controls) (take (r .lent) block) (r .outputs) x p e }),
-       runs-only (blockAfter (callOf r) block) rs o)
+  runs-only block (r ∷ rs) (inr (x, p, e), o) = (
+    inr (record { number = x; place = p; nothing = refused-nothing (r .code) (r .ticks) (r .inputs) (r .controls) (take (r .lent) block) (r .outputs) x p e }),
+    runs-only (blockAfter (callOf r) block) rs o,
+  )
 
 -- an accepted table whose translation needs at most 2,048 instructions and 16,384 cells; cells that a load has cleared for it, whatever they held before; any list of runs of the translated code, and refused runs between
 pub demand-3 : (table : List ℕ) (answer : CheckAnswer) (n m i d : ℕ) → Checked table answer → answer ≡ Accepted n m i d → Words table → i ≤ 2048 → d ≤ 16384
