@@ -12,9 +12,10 @@ use Rattle.refusal.specs.Answer.Answer.{counts}
 use Rattle.arity.specs.Tree.{ins, outs}
 use Rattle.arity.specs.Tree.Tree.{join}
 use Rattle.arity.specs.Table.{kindAt, firstAt, secondAt, nodes, tree, compositionOf}
+use Rattle.arity.specs.Rules.{Arity}
 use Rattle.arity.specs.WellFormed.{Ruled}
 use Rattle.arity.specs.Check.{twoChildren, firstInRange, secondInRange, ruleFits, taken, refusalAt, loose, report, checked}
-use Rattle.arity.specs.Checked.{answerOf, Checked}
+use Rattle.arity.specs.Checked.{answerOf, Checked, IsAccepted}
 use Rattle.arity.specs.Formed.{Child, Children, Fields, Formed, Fitting}
 use Rattle.arity.specs.declared.CheckAnswer.{CheckAnswer}
 use Rattle.arity.specs.declared.CheckAnswer.the-variants.{Accepted, Refused}
@@ -23,10 +24,10 @@ use Rattle.arity.proofs.Tests.{and-left, and-right, known-false}
 use Rattle.arity.proofs.ByKind.{Alone, alone-of, two-of, fits-of, rule-of, rule-other}
 use Rattle.arity.proofs.ByKind.Alone.{k1, k2, k3, k4, k5, k6}
 use Rattle.arity.proofs.Taken.{taken-child, child-taken, of-children}
-use Rattle.arity.proofs.Trees.{View, view, strong}
+use Rattle.arity.proofs.Trees.{View, view}
 use Rattle.arity.proofs.Trees.View.{alone, two, one}
-use Rattle.arity.proofs.Right.{Right, right}
-use Rattle.arity.proofs.Once.{lower}
+use Rattle.arity.proofs.Right.{rights, kids}
+use Rattle.arity.proofs.Once.{nodewise}
 use Rattle.arity.proofs.Walk.{Passed, has-passed, even, passes}
 
 -- the fields in range
@@ -59,7 +60,7 @@ second-in-range k a b f = go (twoChildren k) refl
     go true e = rw e
     go false e = rw e (eq-eqb b 0 (f .unused (λ l m. false≢true (sym e ∙ rw (le-leb 7 k l, le-leb k 11 m)))))
 
-pub fields-of : (k a b : ℕ) → firstInRange k a ≡ true → secondInRange k b ≡ true → Fields k a b
+fields-of : (k a b : ℕ) → firstInRange k a ≡ true → secondInRange k b ≡ true → Fields k a b
 fields-of k a b g h =
     record {
       control = λ z. leb-true a 15 (first 2 z);
@@ -114,19 +115,16 @@ module _ (t : List ℕ) (f : Formed t) (w : Fitting t) where
       go (yes h) = let a = f .attached p h in rw (lt-ltb (suc p) (nodes t) h, child-taken t (nodes t) (a .0) p (a .1) (a .2))
       go (no h) = rw (le-ltb (suc p) (nodes t) (omega arith))
 
-  pub complete : (p : ℕ) → checked p t ≡ report t
+  complete : (p : ℕ) → checked p t ≡ report t
   complete p =
       let l = f .least in
       let q = f .whole in
       passes p t (even t (λ e. omega arith) (omega arith)) (f .most) not-refused ∙ rw (not-loose p)
 
 -- an accepted table: it is of the form, and its nodes have arities
-module _ (t : List ℕ) (a b c d : ℕ) (x : Passed t a b c d) where
-  rights : (i : ℕ) → i < nodes t → Right t i
-  rights i h = right t i (x .right i h)
-
-  kids : (i : ℕ) → i < nodes t → Children t i
-  kids i h = rights i h .children
+module _ (t : List ℕ) (x : Passed t) where
+  kids-of : (i : ℕ) → i < nodes t → Children t i
+  kids-of = kids t (nodes t) (x .right)
 
   attached : (j : ℕ) → suc j < nodes t → (y : Bool) → taken t (nodes t) j ≡ y → (q : ℕ) × (q < nodes t) × Child t q j
   attached j h true z = taken-child t (nodes t) j z
@@ -138,44 +136,41 @@ module _ (t : List ℕ) (a b c d : ℕ) (x : Passed t a b c d) where
         whole = x .whole;
         least = x .least;
         most = x .most;
-        kinds = λ i h. (rights i h .least, rights i h .most);
-        fields = λ i h. fields-of _ _ _ (rights i h .first) (rights i h .second);
-        children = kids;
+        kinds = λ i h. (rights t (nodes t) (x .right) i h .least, rights t (nodes t) (x .right) i h .most);
+        fields = λ i h. fields-of _ _ _ (rights t (nodes t) (x .right) i h .first) (rights t (nodes t) (x .right) i h .second);
+        children = kids-of;
         attached = λ j h. attached j h (taken t (nodes t) j) refl;
       }
 
   rules : (i : ℕ) → i < nodes t → Ruled (tree t i)
   unfolding Ruled ruleFits
-  rules = strong (λ i. i < nodes t → Ruled (tree t i)) step
+  rules = nodewise t (nodes t) kids-of (λ i. Ruled (tree t i)) (λ i h kid. step i h kid (view t (nodes t) kids-of i h))
     where
-      step : (i : ℕ) → ((k : ℕ) → k < i → k < nodes t → Ruled (tree t k)) → i < nodes t → Ruled (tree t i)
-      step i ih h = go (view t (nodes t) kids i h)
-        where
-          kid : (c : ℕ) → Child t i c → Ruled (tree t c)
-          kid c k = let l = lower t (nodes t) kids i c h k in ih c l (omega arith)
+      step : (i : ℕ) → i < nodes t → ((c : ℕ) → Child t i c → Ruled (tree t c)) → View t i → Ruled (tree t i)
+      step i h kid (alone a e) = rw e tt
+      step i h kid (two a b e) =
+          rw e (kid _ (inl (a, refl)), kid _ (inr (a, b, refl)), fits-of (kindAt t i) _ _ (two-of _ a b) (rights t (nodes t) (x .right) i h .fits))
+      step i h kid (one a e) = rw e (kid _ (inl (omega arith, refl)))
 
-          go : View t i → Ruled (tree t i)
-          go (alone a e) = rw e tt
-          go (two a b e) = rw e (kid _ (inl (a, refl)), kid _ (inr (a, b, refl)), fits-of (kindAt t i) _ _ (two-of _ a b) (rights i h .fits))
-          go (one a e) = rw e (kid _ (inl (omega arith, refl)))
+  pub arities : (i : ℕ) → i < nodes t → Arity (tree t i) (ins (tree t i)) (outs (tree t i))
+  arities i h = arity (tree t i) (rules i h)
 
-  pub fitting : Fitting t
-  fitting i h = (ins (tree t i), outs (tree t i), arity (tree t i) (rules i h), rights i h .inputs, rights i h .outputs)
+  fitting : Fitting t
+  fitting i h = (ins (tree t i), outs (tree t i), arities i h, rights t (nodes t) (x .right) i h .inputs, rights t (nodes t) (x .right) i h .outputs)
 
--- acceptance, by the answer
-abbrev pub IsAccepted : CheckAnswer → Type 0
-IsAccepted r = (a : ℕ) × (b : ℕ) × (c : ℕ) × (d : ℕ) × (r ≡ Accepted a b c d)
-
--- only tables of the stated form are accepted
-pub accepted-formed : (t : List ℕ) (r : CheckAnswer) → Checked t r → IsAccepted r → Formed t × Fitting t
-accepted-formed t r k (a, b, c, d, e) =
-    let x = has-passed (k .place) t a b c d (k .isLoose) (sym (k .answer) ∙ ap answerOf e) in
-    (formed t a b c d x, fitting t a b c d x)
-
--- and of these exactly those whose nodes have arities by the published rules, none above 32
 reported : (xs : List ℕ) (r : CheckAnswer) → answerOf r ≡ counts xs → IsAccepted r
 reported xs (Accepted a b c d) e = (a, b, c, d, refl)
 reported xs (Refused x) e = let z : _≡_ {A = ℕ} 0 1 = cc in absurd (omega arith)
 
+-- exactly the tables of the stated form are accepted whose nodes have arities by the published rules, none above 32
+pub accepted : (t : List ℕ) (r : CheckAnswer) → Checked t r → IsAccepted r ↔ (Formed t × Fitting t)
+accepted t r k = (only, λ (f, w). reported _ r (k .answer ∙ complete t f w (k .place)))
+  where
+    only : IsAccepted r → Formed t × Fitting t
+    only (a, b, c, d, e) =
+        let x = has-passed (k .place) t _ (k .isLoose) (sym (k .answer) ∙ ap answerOf e) .0 in
+        (formed t x, fitting t x)
+
+-- so a table of the form is accepted exactly where they count each of its nodes
 pub acceptance : (t : List ℕ) (r : CheckAnswer) → Checked t r → Formed t → IsAccepted r ↔ Fitting t
-acceptance t r k f = (λ h. accepted-formed t r k h .1, λ w. reported _ r (k .answer ∙ complete t f w (k .place)))
+acceptance t r k f = (λ h. accepted t r k .0 h .1, λ w. accepted t r k .1 (f, w))

@@ -15,15 +15,15 @@ use Rattle.arity.specs.Tree.Primitive.{number, control, operation, delay
 use Rattle.arity.specs.Table.{kindAt, firstAt, secondAt, tree, primitiveOf, compositionOf}
 use Rattle.arity.specs.Nodes.{Numbered, Distinct, has, sumTo}
 use Rattle.arity.specs.Check.{firstInRange, refusalAt, cellsOf, firstCell}
-use Rattle.arity.specs.Formed.{Children}
+use Rattle.arity.specs.Formed.{Child}
 use Rattle.arity.proofs.Paths.{number-has}
 use Rattle.arity.proofs.ByKind.{Alone, alone-of, Two, two-of}
 use Rattle.arity.proofs.ByKind.Alone.{k1, k2, k3, k4, k5, k6}
 use Rattle.arity.proofs.ByKind.Two.{k7, k8, k9, k10, k11}
-use Rattle.arity.proofs.Trees.{View, view, strong}
+use Rattle.arity.proofs.Trees.{View, view}
 use Rattle.arity.proofs.Trees.View.{alone, two, one}
-use Rattle.arity.proofs.Right.{Right, right}
-use Rattle.arity.proofs.Once.{lower, below, distinct}
+use Rattle.arity.proofs.Right.{rights, kids}
+use Rattle.arity.proofs.Once.{lower, nodewise, below, distinct}
 
 -- sums
 sum-bound : (f : ℕ → ℕ) (b n : ℕ) → ((j : ℕ) → j < n → f j ≤ b) → sumTo f n ≤ n * b
@@ -126,52 +126,41 @@ join-size i k l r k11 b = omega arith
 
 -- n nodes of a table without refusal
 module _ (t : List ℕ) (n : ℕ) (passes : (j : ℕ) → j < n → refusalAt t j ≡ 0) where
-  pub rights : (j : ℕ) → j < n → Right t j
-  rights j h = right t j (passes j h)
-
-  pub kids : (j : ℕ) → j < n → Children t j
-  kids j h = rights j h .children
-
   size-most : (j : ℕ) → j < n → cellsOf t j ≤ 4096
   unfolding size
-  size-most j h = go (view t n kids j h)
+  size-most j h = go (view t n (kids t n passes) j h)
     where
       go : View t j → size (tree t j) ≤ 4096
-      go (alone a e) = rw e (leaf-size j (kindAt t j) (firstAt t j) (alone-of _ (rights j h .least) a) (rights j h .first))
+      go (alone a e) = rw e (leaf-size j (kindAt t j) (firstAt t j) (alone-of _ (rights t n passes j h .least) a) (rights t n passes j h .first))
       go (two a b e) =
-          let v = lower t n kids j (secondAt t j) h (inr (a, b, refl)) in
-          rw e (join-size j (kindAt t j) (tree t (firstAt t j)) (tree t (secondAt t j)) (two-of _ a b) (rights (secondAt t j) (omega arith) .inputs))
+          let v = lower t n (kids t n passes) j (secondAt t j) h (inr (a, b, refl)) in
+          rw e (join-size j (kindAt t j) (tree t (firstAt t j)) (tree t (secondAt t j)) (two-of _ a b) (rights t n passes (secondAt t j) (omega arith) .inputs))
       go (one a e) =
-          let u = lower t n kids j (firstAt t j) h (inl (omega arith, refl)) in
-          rw e (omega (arith, rights (firstAt t j) (omega arith) .outputs))
+          let u = lower t n (kids t n passes) j (firstAt t j) h (inl (omega arith, refl)) in
+          rw e (omega (arith, rights t n passes (firstAt t j) (omega arith) .outputs))
 
   pub cells-most : firstCell t n ≤ n * 4096
   cells-most = sum-bound (cellsOf t) 4096 n size-most
 
-  abbrev Light : ℕ → Type 0
-  Light j = j < n → need (tree t j) ≤ 65 * count (tree t j)
-
-  light : (j : ℕ) → Light j
+  light : (j : ℕ) → j < n → need (tree t j) ≤ 65 * count (tree t j)
   unfolding count need
-  light = strong Light step
+  light = nodewise t n (kids t n passes) (λ j. need (tree t j) ≤ 65 * count (tree t j)) (λ j h kid. step j h kid (view t n (kids t n passes) j h))
     where
-      step : (j : ℕ) → ((k : ℕ) → k < j → Light k) → Light j
-      step j ih h = go (view t n kids j h)
-        where
-          go : View t j → need (tree t j) ≤ 65 * count (tree t j)
-          go (alone a e) = rw e (leaf-need j (primitiveOf (kindAt t j) (firstAt t j)))
-          go (two a b e) =
-              let u = lower t n kids j (firstAt t j) h (inl (a, refl)) in
-              let v = lower t n kids j (secondAt t j) h (inr (a, b, refl)) in
-              let p = rights (firstAt t j) (omega arith) .outputs in
-              let q = rights (secondAt t j) (omega arith) .inputs in
-              rw e
-              (omega (arith, join-need j (kindAt t j) (tree t (firstAt t j)) (tree t (secondAt t j)) (two-of _ a b) p q, ih (firstAt t j) u (omega arith), ih (secondAt t j) v (omega arith)))
-          go (one a e) =
-              let u = lower t n kids j (firstAt t j) h (inl (omega arith, refl)) in
-              let p = rights (firstAt t j) (omega arith) .outputs in
-              rw e (omega (arith, ih (firstAt t j) u (omega arith)))
+      step : (j : ℕ) → j < n → ((c : ℕ) → Child t j c → need (tree t c) ≤ 65 * count (tree t c)) → View t j → need (tree t j) ≤ 65 * count (tree t j)
+      step j h kid (alone a e) = rw e (leaf-need j (primitiveOf (kindAt t j) (firstAt t j)))
+      step j h kid (two a b e) =
+          let u = lower t n (kids t n passes) j (firstAt t j) h (inl (a, refl)) in
+          let v = lower t n (kids t n passes) j (secondAt t j) h (inr (a, b, refl)) in
+          let p = rights t n passes (firstAt t j) (omega arith) .outputs in
+          let q = rights t n passes (secondAt t j) (omega arith) .inputs in
+          rw e
+          (omega (arith, join-need j (kindAt t j) (tree t (firstAt t j)) (tree t (secondAt t j)) (two-of _ a b) p q, kid _ (inl (a, refl)), kid _ (inr (a, b, refl))))
+      step j h kid (one a e) =
+          let k : Child t j (firstAt t j) = inl (omega arith, refl) in
+          let u = lower t n (kids t n passes) j (firstAt t j) h k in
+          let p = rights t n passes (firstAt t j) (omega arith) .outputs in
+          rw e (omega (arith, kid _ k))
 
   pub need-most : (j : ℕ) → j < n → need (tree t j) ≤ 65 * n
   need-most j h =
-      omega (arith, light j h, count-most n (tree t j) (distinct t n kids j h) (λ k m. omega (arith, below t n kids j h k m)))
+      omega (arith, light j h, count-most n (tree t j) (distinct t n (kids t n passes) j h) (λ k m. omega (arith, below t n (kids t n passes) j h k m)))

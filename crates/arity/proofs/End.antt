@@ -17,11 +17,11 @@ use Rattle.arity.specs.Table.{nodes}
 use Rattle.arity.specs.Nodes.{sumTo}
 use Rattle.arity.specs.Check.{taken, refusalAt, firstCell, loose}
 use Rattle.arity.specs.Checked.{Checked}
-use Rattle.arity.specs.Counts.{rowOf, rowAt, putRow}
-use Rattle.arity.specs.Survey.{State, Refuses, Steps, FoundLoose, passing, filled, surveyed}
+use Rattle.arity.specs.Survey.{rowOf, rowAt, putRow, passing, filled, surveyed}
+use Rattle.arity.specs.Steps.{State, Refuses, Steps, FoundLoose}
 use Rattle.arity.specs.declared.CheckAnswer.{CheckAnswer}
 use Rattle.arity.specs.declared.CheckAnswer.the-variants.{Accepted, Refused}
-use Rattle.arity.specs.declared.counts.Row.{Row}
+use Rattle.arity.specs.declared.rows.Row.{Row}
 use Rattle.arity.specs.declared.node.Stepped.{Stepped}
 use Rattle.arity.specs.declared.node.Stepped.the-variants.{Next, Stop}
 use Rattle.arity.proofs.Tests.{and-left, and-right, known-false, bit-zero}

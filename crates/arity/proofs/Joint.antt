@@ -1,23 +1,25 @@
 -- The counts of a node, by its kind.
-use Prim.Native.Nat.{ℕ, _+_, _*_, _≤_}
+use Prim.Native.Nat.{ℕ, _+_, _-_, _*_, _≤_}
+use mathlib.Core.Logic.{_⊎_, inl, inr}
+use native.Mathlib.Omega.{arith}
 use mathlib.Core.Path.{_≡_, refl, ap}
 use mathlib.Core.Bool.{true}
 use native.Mathlib.Numerals.{add-one}
 use lib.Dec.{leb}
 use borrow.Author.Tests.{leb-true}
 use Rattle.word.specs.Operation.{operands}
-use Rattle.arity.specs.Tree.{Tree, Primitive, ins, outs, size, need}
-use Rattle.arity.specs.Tree.Tree.{leaf, join, ondemand}
+use Rattle.arity.specs.Tree.{Primitive, ins, outs, size, need}
+use Rattle.arity.specs.Tree.Tree.{leaf}
 use Rattle.arity.specs.Tree.Primitive.{number, control, operation, delay, cable, cut}
-use Rattle.arity.specs.Table.{primitiveOf, compositionOf}
-use Rattle.arity.specs.Counts.{countsOf, rowFor, ruleOf, jointCounts}
+use Rattle.arity.specs.Table.{primitiveOf}
+use Rattle.arity.specs.Steps.{countsOf, ruleOf, Joins, Joinable}
 use Rattle.arity.specs.declared.counts.Counts.{Counts}
-use Rattle.arity.specs.declared.counts.Row.{Row}
+use Rattle.arity.specs.declared.rows.Row.{Row}
 use Rattle.arity.proofs.Tests.{and-right}
 use Rattle.arity.proofs.Times.{times, times-least}
-use Rattle.arity.proofs.ByKind.{Alone, Two}
-use Rattle.arity.proofs.ByKind.Alone.{k1, k2, k3, k4, k5, k6}
+use Rattle.arity.proofs.ByKind.{Alone, Two, two-of}
 use Rattle.arity.proofs.ByKind.Two.{k7, k8, k9, k10, k11}
+use Rattle.arity.proofs.ByKind.Alone.{k1, k2, k3, k4, k5, k6}
 
 -- a merge's right inputs are no more than its left outputs, a recursion's right outputs no more than its left inputs
 pub merge-less : (k : ℕ) (l r : Row) → k ≡ 10 → ruleOf k l r ≡ true → r .inputs ≤ l .outputs
@@ -66,14 +68,36 @@ leaf-other k a k5 p q r s = absurd (r refl)
 leaf-other k a k6 p q r s = absurd (s refl)
 
 -- nodes with children, from the rows of their sides
-pub join-counts : (i k : ℕ) (x y : Tree) (c d : ℕ) → Two k → jointCounts k (rowFor x c) (rowFor y d) ≡ countsOf (join i (compositionOf k) x y)
-unfolding ins outs size need
-join-counts i k x y c d k7 = refl
-join-counts i k x y c d k8 = refl
-join-counts i k x y c d k9 = refl
-join-counts i k x y c d k10 = refl
-join-counts i k x y c d k11 = refl
+plain : (k : ℕ) → Two k → (k ≡ 8 → ⊥) → (k ≡ 10 → ⊥) → (k ≡ 11 → ⊥) → (k ≡ 7) ⊎ (k ≡ 9)
+plain k k7 p q u = inl refl
+plain k k8 p q u = absurd (p refl)
+plain k k9 p q u = inr refl
+plain k k10 p q u = absurd (q refl)
+plain k k11 p q u = absurd (u refl)
 
-pub ondemand-counts : (i : ℕ) (x : Tree) (c : ℕ) (r : Row) → jointCounts 12 (rowFor x c) r ≡ countsOf (ondemand i x)
-unfolding ins outs size need
-ondemand-counts i x c r = ap (λ (n : ℕ). counts n (outs x) (need x + (1 + 2 * outs x)) (outs x)) (add-one (ins x))
+module _ {k : ℕ} {l r : Row} where
+  pub joins-parallel : k ≡ 8 → Joins k l r (counts (l .inputs + r .inputs) (l .outputs + r .outputs) (l .instructions + r .instructions) 0)
+  unfolding ins outs size need
+  joins-parallel e i c d x y el er = rw (e, el, er)
+
+  pub joins-merge : k ≡ 10 → Joins k l r (counts (l .inputs) (r .outputs) (l .instructions + r .instructions + (l .outputs - r .inputs)) 0)
+  unfolding ins outs size need
+  joins-merge e i c d x y el er = rw (e, el, er)
+
+  pub joins-recursion : k ≡ 11 → Joins k l r (counts (l .inputs - r .outputs) (l .outputs) (l .instructions + r .instructions + 2 * r .inputs) (r .inputs))
+  unfolding ins outs size need
+  joins-recursion e i c d x y el er = rw (e, el, er)
+
+  pub joins-ondemand : k ≡ 12 → Joins k l r (counts (l .inputs + 1) (l .outputs) (l .instructions + (1 + 2 * l .outputs)) (l .outputs))
+  unfolding ins outs size need
+  joins-ondemand e i c d x y el er = rw (e, el) (ap (λ (n : ℕ). counts n (outs x) (need x + (1 + 2 * outs x)) (outs x)) (add-one (ins x)))
+
+  -- sequence and split
+  joins-plain : (k ≡ 7) ⊎ (k ≡ 9) → Joins k l r (counts (l .inputs) (r .outputs) (l .instructions + r .instructions) 0)
+  unfolding ins outs size need
+  joins-plain (inl e) i c d x y el er = rw (e, el, er)
+  joins-plain (inr e) i c d x y el er = rw (e, el, er)
+
+  pub joins-other : Joinable k l r → (k ≡ 8 → ⊥) → (k ≡ 10 → ⊥) → (k ≡ 11 → ⊥) → (k ≡ 12 → ⊥)
+      → Joins k l r (counts (l .inputs) (r .outputs) (l .instructions + r .instructions) 0)
+  joins-other j p q u v = joins-plain (plain k (two-of k (j .least) (omega (arith, j .most, v))) p q u)

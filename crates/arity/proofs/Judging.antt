@@ -17,17 +17,18 @@ use Rattle.arity.specs.Tree.Primitive.{number, control, operation, delay
 use Rattle.arity.specs.Table.{kindAt, firstAt, secondAt, nodes, tree, primitiveOf}
 use Rattle.arity.specs.Check.{knownKind, firstInRange, secondInRange, taken, free, childrenFree, ruleFits, narrow, refusalAt, firstCell}
 use Rattle.arity.specs.Formed.{Children}
-use Rattle.arity.specs.Counts.{countsOf, rowOf, rowAt, ruleOf, jointCounts, Modest, Joinable}
-use Rattle.arity.specs.Survey.{State, freeIn, childrenIn, Branching, Refuses}
+use Rattle.arity.specs.Survey.{rowOf, rowAt}
+use Rattle.arity.specs.Steps.{countsOf, ruleOf, over, Joins, Modest, Joinable, State, freeIn, childrenIn, Branching, Refuses}
 use Rattle.arity.specs.declared.counts.Counts.{Counts}
-use Rattle.arity.specs.declared.counts.Row.{Row}
+use Rattle.arity.specs.declared.rows.Row.{Row}
 use Rattle.arity.proofs.Tests.{and-left, and-right}
-use Rattle.arity.proofs.ByKind.{two-of, rule-other}
+use Rattle.arity.proofs.ByKind.{rule-other}
 use Rattle.arity.proofs.Taken.{children-of}
 use Rattle.arity.proofs.Trees.{View, view}
 use Rattle.arity.proofs.Trees.View.{alone, two, one}
-use Rattle.arity.proofs.Bounds.{rights, kids, need-most}
-use Rattle.arity.proofs.Joint.{leaf-any, join-counts, ondemand-counts}
+use Rattle.arity.proofs.Right.{rights, kids}
+use Rattle.arity.proofs.Bounds.{need-most}
+use Rattle.arity.proofs.Joint.{leaf-any}
 
 -- the rows downwards: the tests decide the refusal
 refusal : (t : List ℕ) (i : ℕ) (a b c d e : Bool)
@@ -168,17 +169,22 @@ module _ (t s m : List ℕ) (i : ℕ) (w : State t s m i) (u : Branching t i) wh
           refuses t i 7 (refusal t i true true true false (narrow (tree t i)) known fields all-free (sym rule-law ∙ f) refl) (λ z. omega arith)
 
       joinable : ruleOf (kindAt t i) l r ≡ true → Joinable (kindAt t i) l r
-      joinable f = record { left = rw el (modest (firstAt t i) first-lower); right = rw er (modest (secondAt t i) second-lower); fits = f }
+      joinable f =
+          record {
+            least = u .least;
+            most = u .most;
+            left = rw el (modest (firstAt t i) first-lower);
+            right = rw er (modest (secondAt t i) second-lower);
+            fits = f;
+          }
 
-      counted : jointCounts (kindAt t i) l r ≡ countsOf (tree t i)
-      counted = rw (el, er) (go (view-at t i (w .right) children))
+      counted : (n : Counts) → Joins (kindAt t i) l r n → n ≡ countsOf (tree t i)
+      counted n f = f i (firstCell t (firstAt t i)) (firstCell t (secondAt t i)) (tree t (firstAt t i)) (tree t (secondAt t i)) el er ∙ ap countsOf (go (view-at t i (w .right) children))
         where
-          go : View t i → jointCounts (kindAt t i) (rowOf t (firstAt t i)) (rowOf t (secondAt t i)) ≡ countsOf (tree t i)
+          go : View t i → over (kindAt t i) i (tree t (firstAt t i)) (tree t (secondAt t i)) ≡ tree t i
           go (alone a e) = absurd (omega (arith, u .least))
-          go (two a b e) = rw e (join-counts i (kindAt t i) (tree t (firstAt t i)) (tree t (secondAt t i)) (firstCell t (firstAt t i)) (firstCell t (secondAt t i)) (two-of (kindAt t i) a b))
-          go (one a e) =
-              let k : kindAt t i ≡ 12 = omega (arith, u .most) in
-              rw (e, k) (ondemand-counts i (tree t (firstAt t i)) (firstCell t (firstAt t i)) (rowOf t (secondAt t i)))
+          go (two a b e) = rw (le-leb (kindAt t i) 11 b) (sym e)
+          go (one a e) = rw (lt-leb (kindAt t i) 11 a) (sym e)
 
       width-refused : ruleOf (kindAt t i) l r ≡ true → narrow (tree t i) ≡ false → Refuses t i (refusedAt 8 i)
       width-refused f g = refuses t i 8 (refusal t i true true true true false known fields all-free (sym rule-law ∙ f) g) (λ z. omega arith)
@@ -221,9 +227,9 @@ module _ {t s m : List ℕ} {i k a b : ℕ} (w : State t s m i) (u : Branching t
         pub seen-joinable : Joinable k l r
         seen-joinable = rw (v .kind) (joinable t s m i w u all l r row-l row-r fits)
 
-        module _ {n : Counts} (en : n ≡ jointCounts k l r) where
+        module _ {n : Counts} (en : Joins k l r n) where
           counts-at : n ≡ countsOf (tree t i)
-          counts-at = en ∙ ap (λ (x : ℕ). jointCounts x l r) (v .kind) ∙ counted t s m i w u all l r row-l row-r
+          counts-at = counted t s m i w u all l r row-l row-r n (rw (v .kind) at en)
 
           pub seen-ins : 32 < n .inputs → Refuses t i (refusedAt 8 i)
           seen-ins h = width-refused t s m i w u all l r row-l row-r fits (wide-ins (tree t i) (rw counts-at at h))

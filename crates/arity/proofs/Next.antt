@@ -16,10 +16,10 @@ use Rattle.arity.specs.Tree.{size}
 use Rattle.arity.specs.Table.{kindAt, firstAt, secondAt, nodes, tree}
 use Rattle.arity.specs.Nodes.{sumTo}
 use Rattle.arity.specs.Check.{taken, refusalAt, firstCell}
-use Rattle.arity.specs.Counts.{countsOf, rowOf, rowAt, putRow}
-use Rattle.arity.specs.Survey.{State, marking, Refuses, Judges}
+use Rattle.arity.specs.Survey.{rowOf, rowAt, putRow}
+use Rattle.arity.specs.Steps.{countsOf, State, marking, Refuses, Judges}
 use Rattle.arity.specs.declared.counts.Counts.{Counts}
-use Rattle.arity.specs.declared.counts.Row.{Row}
+use Rattle.arity.specs.declared.rows.Row.{Row}
 use Rattle.arity.specs.declared.node.Judged.{Judged}
 use Rattle.arity.specs.declared.node.Judged.the-variants.{Right, Wrong}
 use Rattle.arity.proofs.Right.{right}

@@ -14,7 +14,7 @@ use Rattle.arity.proofs.Trees.{View, view, strong}
 use Rattle.arity.proofs.Trees.View.{alone, two, one}
 
 -- j has its parent in the tree of i
-abbrev pub Parent : List ℕ → ℕ → ℕ → Type 0
+abbrev Parent : List ℕ → ℕ → ℕ → Type 0
 Parent t i j = (p : ℕ) × (p ≤ i) × Child t p j × Numbered (tree t i) p
 
 module _ (t : List ℕ) (n : ℕ) (children : (i : ℕ) → i < n → Children t i) where
@@ -27,7 +27,7 @@ module _ (t : List ℕ) (n : ℕ) (children : (i : ℕ) → i < n → Children t
   new i j c h g (inl k) q = children i h .first (k .0) .new j g (rw (k .1) q)
   new i j c h g (inr k) q = children i h .second (k .0) (k .1) .new j g (rw (k .2) q)
 
-  pub unique : (i j c : ℕ) → i < n → j < n → Child t i c → Child t j c → i ≡ j
+  unique : (i j c : ℕ) → i < n → j < n → Child t i c → Child t j c → i ≡ j
   unique i j c h g p q = go (decLt i j) (decLt j i)
     where
       go : Dec (i < j) → Dec (j < i) → i ≡ j
@@ -35,8 +35,12 @@ module _ (t : List ℕ) (n : ℕ) (children : (i : ℕ) → i < n → Children t
       go (no a) (yes b) = absurd (new i j c h b p q)
       go (no a) (no b) = omega arith
 
+  -- what holds of a node where it holds of its children, holds of all
+  pub nodewise : (P : ℕ → Type 0) → ((i : ℕ) → i < n → ((c : ℕ) → Child t i c → P c) → P i) → (i : ℕ) → i < n → P i
+  nodewise P f = strong (λ i. i < n → P i) (λ i ih h. f i h (λ c k. let l = lower i c h k in ih c l (omega arith)))
+
   -- the numbers in a node's tree: its own, and those of its children's trees
-  pub self : (i : ℕ) → i < n → Numbered (tree t i) i
+  self : (i : ℕ) → i < n → Numbered (tree t i) i
   unfolding Numbered
   self i h = go (view t n children i h)
     where
@@ -45,7 +49,7 @@ module _ (t : List ℕ) (n : ℕ) (children : (i : ℕ) → i < n → Children t
       go (two a b e) = rw e (inl refl)
       go (one a e) = rw e (inl refl)
 
-  pub inside : (i c j : ℕ) → i < n → Child t i c → Numbered (tree t c) j → Numbered (tree t i) j
+  inside : (i c j : ℕ) → i < n → Child t i c → Numbered (tree t c) j → Numbered (tree t i) j
   unfolding Numbered
   inside i c j h k m = go (view t n children i h) k
     where
@@ -58,7 +62,7 @@ module _ (t : List ℕ) (n : ℕ) (children : (i : ℕ) → i < n → Children t
       go (one a e) (inr q) = absurd (omega (arith, q .1))
 
   -- what is in a tree is its root or in a child's tree
-  pub cases : (i j : ℕ) → i < n → Numbered (tree t i) j → (i ≡ j) ⊎ ((c : ℕ) × Child t i c × Numbered (tree t c) j)
+  cases : (i j : ℕ) → i < n → Numbered (tree t i) j → (i ≡ j) ⊎ ((c : ℕ) × Child t i c × Numbered (tree t c) j)
   unfolding Numbered
   cases i j h m = go (view t n children i h)
     where
@@ -78,21 +82,21 @@ module _ (t : List ℕ) (n : ℕ) (children : (i : ℕ) → i < n → Children t
       go (one a e) = pass-one (rw e at m) a
 
   pub below : (i : ℕ) → i < n → (j : ℕ) → Numbered (tree t i) j → j ≤ i
-  below = strong (λ i. i < n → (j : ℕ) → Numbered (tree t i) j → j ≤ i) step
+  below = nodewise (λ i. (j : ℕ) → Numbered (tree t i) j → j ≤ i) step
     where
-      step : (i : ℕ) → ((k : ℕ) → k < i → k < n → (j : ℕ) → Numbered (tree t k) j → j ≤ k) → i < n → (j : ℕ) → Numbered (tree t i) j → j ≤ i
-      step i ih h j m = go (cases i j h m)
+      step : (i : ℕ) → i < n → ((c : ℕ) → Child t i c → (j : ℕ) → Numbered (tree t c) j → j ≤ c) → (j : ℕ) → Numbered (tree t i) j → j ≤ i
+      step i h ih j m = go (cases i j h m)
         where
           go : (i ≡ j) ⊎ ((c : ℕ) × Child t i c × Numbered (tree t c) j) → j ≤ i
           go (inl e) = omega arith
-          go (inr w) = let l = lower i (w .0) h (w .1) in omega (arith, ih (w .0) l (omega arith) j (w .2))
+          go (inr w) = omega (arith, lower i (w .0) h (w .1), ih (w .0) (w .1) j (w .2))
 
   -- a node in a tree is the root or has its parent there
-  pub parent : (i : ℕ) → i < n → (j : ℕ) → Numbered (tree t i) j → (i ≡ j) ⊎ Parent t i j
-  parent = strong (λ i. i < n → (j : ℕ) → Numbered (tree t i) j → (i ≡ j) ⊎ Parent t i j) step
+  parent : (i : ℕ) → i < n → (j : ℕ) → Numbered (tree t i) j → (i ≡ j) ⊎ Parent t i j
+  parent = nodewise (λ i. (j : ℕ) → Numbered (tree t i) j → (i ≡ j) ⊎ Parent t i j) step
     where
-      step : (i : ℕ) → ((k : ℕ) → k < i → k < n → (j : ℕ) → Numbered (tree t k) j → (k ≡ j) ⊎ Parent t k j) → i < n → (j : ℕ) → Numbered (tree t i) j → (i ≡ j) ⊎ Parent t i j
-      step i ih h j m = go (cases i j h m)
+      step : (i : ℕ) → i < n → ((c : ℕ) → Child t i c → (j : ℕ) → Numbered (tree t c) j → (c ≡ j) ⊎ Parent t c j) → (j : ℕ) → Numbered (tree t i) j → (i ≡ j) ⊎ Parent t i j
+      step i h ih j m = go (cases i j h m)
         where
           up : (c : ℕ) → Child t i c → (c ≡ j) ⊎ Parent t c j → (i ≡ j) ⊎ Parent t i j
           up c k (inl e) = inr (i, omega arith, rw e at k, self i h)
@@ -100,22 +104,22 @@ module _ (t : List ℕ) (n : ℕ) (children : (i : ℕ) → i < n → Children t
 
           go : (i ≡ j) ⊎ ((c : ℕ) × Child t i c × Numbered (tree t c) j) → (i ≡ j) ⊎ Parent t i j
           go (inl e) = inl e
-          go (inr w) = let l = lower i (w .0) h (w .1) in up (w .0) (w .1) (ih (w .0) l (omega arith) j (w .2))
+          go (inr w) = up (w .0) (w .1) (ih (w .0) (w .1) j (w .2))
 
   -- the children of a node in a tree are in it too
-  pub down : (i : ℕ) → i < n → (p c : ℕ) → Numbered (tree t i) p → Child t p c → Numbered (tree t i) c
-  down = strong (λ i. i < n → (p c : ℕ) → Numbered (tree t i) p → Child t p c → Numbered (tree t i) c) step
+  down : (i : ℕ) → i < n → (p c : ℕ) → Numbered (tree t i) p → Child t p c → Numbered (tree t i) c
+  down = nodewise (λ i. (p c : ℕ) → Numbered (tree t i) p → Child t p c → Numbered (tree t i) c) step
     where
-      step : (i : ℕ) → ((k : ℕ) → k < i → k < n → (p c : ℕ) → Numbered (tree t k) p → Child t p c → Numbered (tree t k) c) → i < n
+      step : (i : ℕ) → i < n → ((d : ℕ) → Child t i d → (p c : ℕ) → Numbered (tree t d) p → Child t p c → Numbered (tree t d) c)
           → (p c : ℕ) → Numbered (tree t i) p → Child t p c → Numbered (tree t i) c
-      step i ih h p c m k = go (cases i p h m)
+      step i h ih p c m k = go (cases i p h m)
         where
           go : (i ≡ p) ⊎ ((d : ℕ) × Child t i d × Numbered (tree t d) p) → Numbered (tree t i) c
           go (inl e) =
               let q : Child t i c = rw e k in
               let l = lower i c h q in
               inside i c c h q (self c (omega arith))
-          go (inr w) = let l = lower i (w .0) h (w .1) in inside i (w .0) c h (w .1) (ih (w .0) l (omega arith) p c (w .2) k)
+          go (inr w) = inside i (w .0) c h (w .1) (ih (w .0) (w .1) p c (w .2) k)
 
   -- of two trees with a node in common one has the other's root
   chain : (fuel a b j : ℕ) → n ≤ j + fuel → a < n → b < n → Numbered (tree t a) j → Numbered (tree t b) j → Numbered (tree t b) a ⊎ Numbered (tree t a) b
@@ -151,42 +155,30 @@ module _ (t : List ℕ) (n : ℕ) (children : (i : ℕ) → i < n → Children t
 
   pub distinct : (i : ℕ) → i < n → Distinct (tree t i)
   unfolding Distinct
-  distinct = strong (λ i. i < n → Distinct (tree t i)) step
+  distinct = nodewise (λ i. Distinct (tree t i)) (λ i h kid. step i h kid (view t n children i h))
     where
-      step : (i : ℕ) → ((k : ℕ) → k < i → k < n → Distinct (tree t k)) → i < n → Distinct (tree t i)
-      step i ih h = go (view t n children i h)
-        where
-          kid : (c : ℕ) → Child t i c → Distinct (tree t c)
-          kid c k = let l = lower i c h k in ih c l (omega arith)
+      off : (i c : ℕ) → i < n → Child t i c → Numbered (tree t c) i → ⊥
+      off i c h k m = let l = lower i c h k in omega (arith, below c (omega arith) i m)
 
-          off : (c : ℕ) → Child t i c → Numbered (tree t c) i → ⊥
-          off c k m = let l = lower i c h k in omega (arith, below c (omega arith) i m)
-
-          go : View t i → Distinct (tree t i)
-          go (alone a e) = rw e tt
-          go (two a b e) =
-              let p : Child t i (firstAt t i) = inl (a, refl) in
-              let q : Child t i (secondAt t i) = inr (a, b, refl) in
-              rw e (kid _ p, kid _ q, off _ p, off _ q, siblings i _ _ h p q (children i h .apart a b))
-          go (one a e) =
-              let p : Child t i (firstAt t i) = inl (omega arith, refl) in
-              rw e (kid _ p, off _ p)
+      step : (i : ℕ) → i < n → ((c : ℕ) → Child t i c → Distinct (tree t c)) → View t i → Distinct (tree t i)
+      step i h kid (alone a e) = rw e tt
+      step i h kid (two a b e) =
+          let p : Child t i (firstAt t i) = inl (a, refl) in
+          let q : Child t i (secondAt t i) = inr (a, b, refl) in
+          rw e (kid _ p, kid _ q, off i _ h p, off i _ h q, siblings i _ _ h p q (children i h .apart a b))
+      step i h kid (one a e) =
+          let p : Child t i (firstAt t i) = inl (omega arith, refl) in
+          rw e (kid _ p, off i _ h p)
 
   -- each node of the tree has the cells that the table says
   pub sized : (i : ℕ) → i < n → Sized (cellsOf t) (tree t i)
   unfolding Sized
-  sized = strong (λ i. i < n → Sized (cellsOf t) (tree t i)) step
+  sized = nodewise (λ i. Sized (cellsOf t) (tree t i)) (λ i h kid. step i kid (view t n children i h))
     where
-      step : (i : ℕ) → ((k : ℕ) → k < i → k < n → Sized (cellsOf t) (tree t k)) → i < n → Sized (cellsOf t) (tree t i)
-      step i ih h = go (view t n children i h)
-        where
-          kid : (c : ℕ) → Child t i c → Sized (cellsOf t) (tree t c)
-          kid c k = let l = lower i c h k in ih c l (omega arith)
-
-          go : View t i → Sized (cellsOf t) (tree t i)
-          go (alone a e) = rw e (ap size (sym e))
-          go (two a b e) = rw e (ap size (sym e), kid _ (inl (a, refl)), kid _ (inr (a, b, refl)))
-          go (one a e) = rw e (ap size (sym e), kid _ (inl (omega arith, refl)))
+      step : (i : ℕ) → ((c : ℕ) → Child t i c → Sized (cellsOf t) (tree t c)) → View t i → Sized (cellsOf t) (tree t i)
+      step i kid (alone a e) = rw e (ap size (sym e))
+      step i kid (two a b e) = rw e (ap size (sym e), kid _ (inl (a, refl)), kid _ (inr (a, b, refl)))
+      step i kid (one a e) = rw e (ap size (sym e), kid _ (inl (omega arith, refl)))
 
   -- where no node but the last is loose, the last one's tree has all
   pub everywhere : (m : ℕ) → n ≡ suc m → ((j : ℕ) → j < m → (p : ℕ) × (p < n) × Child t p j) → (j : ℕ) → j < n → Numbered (tree t m) j

@@ -1,5 +1,5 @@
 -- What a node without refusal has.
-use Prim.Native.Nat.{ℕ, _≤_}
+use Prim.Native.Nat.{ℕ, _≤_, _<_}
 use mathlib.Core.Path.{_≡_}
 use mathlib.Core.Bool.{true, _&&_}
 use mathlib.Core.List.{List}
@@ -42,3 +42,11 @@ right t i e =
       inputs = leb-true _ _ (and-left (leb (ins (tree t i)) 32) (leb (outs (tree t i)) 32) (f .0));
       outputs = leb-true _ _ (and-right (leb (ins (tree t i)) 32) (leb (outs (tree t i)) 32) (f .0));
     }
+
+-- n nodes without refusal
+module _ (t : List ℕ) (n : ℕ) (passes : (j : ℕ) → j < n → refusalAt t j ≡ 0) where
+  pub rights : (j : ℕ) → j < n → Right t j
+  rights j h = right t j (passes j h)
+
+  pub kids : (j : ℕ) → j < n → Children t j
+  kids j h = rights j h .children

@@ -5,7 +5,10 @@ use mathlib.Core.List.{List, [], _∷_, _++_}
 use Rattle.word.specs.Operation.{operands}
 use Rattle.refusal.specs.Answer.{Answer, refusedAt}
 use Rattle.refusal.specs.Answer.Answer.{counts}
-use Rattle.arity.specs.Check.{checked}
+use Rattle.arity.specs.Tree.{ins, outs, need, size}
+use Rattle.arity.specs.Table.{tree, treeAt}
+use Rattle.arity.specs.Nodes.{sumTo}
+use Rattle.arity.specs.Check.{checked, nodeByNode, refusalAt, childrenFree, taken, ruleFits}
 
 -- a table and the check's answer to it
 record Sample : Type 0 where
@@ -40,5 +43,5 @@ all-right [] = Unit {0}
 all-right (s ∷ ss) = (checked 0 (s .table) ≡ s .answer) × all-right ss
 
 samples-right : all-right samples
-unfolding samples all-right checked operands
+unfolding samples all-right checked nodeByNode refusalAt childrenFree taken ruleFits tree treeAt ins outs need size sumTo operands
 samples-right = (refl, (refl, (refl, (refl, (refl, (refl, (refl, (refl, (refl, (refl, tt))))))))))

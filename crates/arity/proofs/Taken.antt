@@ -19,7 +19,7 @@ left-test t j c = leb 7 (kindAt t j) && eqb (firstAt t j) c
 abbrev right-test : List ℕ → ℕ → ℕ → Bool
 right-test t j c = twoChildren (kindAt t j) && eqb (secondAt t j) c
 
-pub names-child : (t : List ℕ) (j c : ℕ) → names t j c ≡ true → Child t j c
+names-child : (t : List ℕ) (j c : ℕ) → names t j c ≡ true → Child t j c
 names-child t j c e = go (or-cases (left-test t j c) (right-test t j c) e)
   where
     go : (left-test t j c ≡ true) ⊎ (right-test t j c ≡ true) → Child t j c
@@ -33,7 +33,7 @@ names-child t j c e = go (or-cases (left-test t j c) (right-test t j c) e)
           eqb-true _ _ (and-right (twoChildren (kindAt t j)) (eqb (secondAt t j) c) h),
         )
 
-pub child-names : (t : List ℕ) (j c : ℕ) → Child t j c → names t j c ≡ true
+child-names : (t : List ℕ) (j c : ℕ) → Child t j c → names t j c ≡ true
 child-names t j c (inl h) = or-left (left-test t j c) (right-test t j c) (rw (le-leb 7 (kindAt t j) (h .0), eq-eqb (firstAt t j) c (h .1)))
 child-names t j c (inr h) =
     or-right (left-test t j c) (right-test t j c)
@@ -66,7 +66,7 @@ is-free t i c e =
       new = λ j h k. false≢true (sym (not-true (taken t i c) (and-right (ltb c i) (not (taken t i c)) e)) ∙ child-taken t i j c h k);
     }
 
-pub free-is : (t : List ℕ) (i c : ℕ) → Free t i c → free t i c ≡ true
+free-is : (t : List ℕ) (i c : ℕ) → Free t i c → free t i c ≡ true
 free-is t i c f =
     rw (lt-ltb c i (f .lower), known-false (taken t i c) (λ e. let w = taken-child t i c e in f .new (w .0) (w .1) (w .2)))
 

@@ -40,7 +40,3 @@ passed false r x e n = absurd (n e)
 pub bit-zero : (b : Bool) → bit b ≡ 0 → b ≡ false
 bit-zero true e = absurd (omega arith)
 bit-zero false e = refl
-
-pub bit-one : (b : Bool) → (bit b ≡ 0 → ⊥) → b ≡ true
-bit-one true n = refl
-bit-one false n = absurd (n refl)

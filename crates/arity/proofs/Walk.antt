@@ -3,7 +3,7 @@ use Prim.Native.Nat.{ℕ, zero, suc, _+_, _*_, _%_, _≤_, _<_}
 use mathlib.Core.Path.{_≡_, refl, sym, _∙_}
 use mathlib.Core.Logic.{_⊎_, inl, inr}
 use mathlib.Core.Bool.{Bool, true, false, not, false≢true}
-use mathlib.Core.List.{List, [], _∷_}
+use mathlib.Core.List.{List}
 use native.Mathlib.Omega.{arith}
 use native.Mathlib.Decide.{decLt, ℕ-discrete}
 use lib.ListN.{length}
@@ -12,9 +12,8 @@ use borrow.Author.Tests.{ltb-true, le-ltb, lt-ltb, eq-eqb, ne-eqb}
 use Rattle.word.specs.Choice.{pick}
 use Rattle.refusal.specs.Answer.{Answer, refusedAt}
 use Rattle.refusal.specs.Answer.Answer.{counts}
-use Rattle.arity.specs.Tree.{ins, outs, need}
-use Rattle.arity.specs.Table.{nodes, circuit}
-use Rattle.arity.specs.Check.{taken, refusalAt, nodeByNode, firstCell, report, loose, uneven, checked}
+use Rattle.arity.specs.Table.{nodes}
+use Rattle.arity.specs.Check.{taken, refusalAt, nodeByNode, report, loose, uneven, checked}
 use Rattle.arity.specs.Checked.{LoosePlace}
 use Rattle.arity.proofs.Tests.{and-left, known-false}
 
@@ -93,41 +92,34 @@ module _ (p : ℕ) (t : List ℕ) (e : uneven t ≡ false) (most : nodes t ≤ 5
   pub passes : ((j : ℕ) → j < nodes t → refusalAt t j ≡ 0) → checked p t ≡ pick (loose t p) (refusedAt 9 p) (report t)
   passes f = walked ∙ walk-passes t (nodes t) 0 _ (λ j x y. f j (omega arith))
 
--- a table that passes, and the counts that it gets
-pub record Passed (t : List ℕ) (a b c d : ℕ) : Type 0 where
+-- a table that passes
+pub record Passed (t : List ℕ) : Type 0 where
   pub whole : 3 * nodes t ≡ length t
   pub least : 1 ≤ nodes t
   pub most : nodes t ≤ 512
   pub right : (i : ℕ) → i < nodes t → refusalAt t i ≡ 0
   pub tight : (q : ℕ) → loose t q ≡ false
-  pub inputs : a ≡ ins (circuit t)
-  pub outputs : b ≡ outs (circuit t)
-  pub instructions : c ≡ need (circuit t)
-  pub cells : d ≡ firstCell t (nodes t)
 
-pub has-passed : (p : ℕ) (t : List ℕ) (a b c d : ℕ) → LoosePlace t p → checked p t ≡ counts (a ∷ b ∷ c ∷ d ∷ []) → Passed t a b c d
-has-passed p t a b c d l e = first (ℕ-discrete (length t) 0) (ℕ-discrete (length t % 3) 0) (decLt 512 (nodes t)) (loose t p) refl
+pub has-passed : (p : ℕ) (t xs : List ℕ) → LoosePlace t p → checked p t ≡ counts xs → Passed t × (report t ≡ counts xs)
+has-passed p t xs l e = first (ℕ-discrete (length t) 0) (ℕ-discrete (length t % 3) 0) (decLt 512 (nodes t)) (loose t p) refl
   where
-    first : Dec (length t ≡ 0) → Dec (length t % 3 ≡ 0) → Dec (512 < nodes t) → (x : Bool) → loose t p ≡ x → Passed t a b c d
+    first : Dec (length t ≡ 0) → Dec (length t % 3 ≡ 0) → Dec (512 < nodes t) → (x : Bool) → loose t p ≡ x → Passed t × (report t ≡ counts xs)
     first (yes z) y x w v = absurd (never _ _ _ (sym (unevenly p t (not-even t (inl z))) ∙ e))
     first (no z) (no y) x w v = absurd (never _ _ _ (sym (unevenly p t (not-even t (inr y))) ∙ e))
     first (no z) (yes y) (yes x) w v = absurd (never _ _ _ (sym (too-many p t (even t z y) x) ∙ e))
     first (no z) (yes y) (no x) true v =
         absurd (never _ _ _ (rw v at (walk-right t (nodes t) 0 _ _ (sym (walked p t (even t z y) (omega arith)) ∙ e) .1)))
     first (no z) (yes y) (no x) false v =
-        let r = walk-right t (nodes t) 0 _ _ (sym (walked p t (even t z y) (omega arith)) ∙ e) in
-        let q : report t ≡ counts (a ∷ b ∷ c ∷ d ∷ []) = rw v at (r .1) in
-        record {
-          whole = omega arith;
-          least = omega arith;
-          most = omega arith;
-          right = λ i h. r .0 i (omega arith) (omega arith);
-          tight = λ j. known-false (loose t j) (λ h. false≢true (sym v ∙ l j h));
-          inputs = cc;
-          outputs = cc;
-          instructions = cc;
-          cells = cc;
-        }
+        let r = walk-right t (nodes t) 0 _ _ (sym (walked p t (even t z y) (omega arith)) ∙ e) in (
+          record {
+            whole = omega arith;
+            least = omega arith;
+            most = omega arith;
+            right = λ i h. r .0 i (omega arith) (omega arith);
+            tight = λ j. known-false (loose t j) (λ h. false≢true (sym v ∙ l j h));
+          },
+          rw v at (r .1),
+        )
 
 -- there is a place for refusal 9
 pub some-place : (t : List ℕ) → (p : ℕ) × LoosePlace t p

@@ -63,7 +63,6 @@ rule kind a b c d =
     (pick (eqb kind 11) (leb c b && leb d a) true)))
 
 unfoldable pub ruleFits : List ℕ → ℕ → Bool
-unfolding tree ins outs
 ruleFits table i =
     let l = tree table (firstAt table i) in
     let r = tree table (secondAt table i) in
@@ -75,7 +74,6 @@ narrow x = leb (ins x) 32 && leb (outs x) 32
 
 -- "At one node the rows are taken downwards": the number of the first that refuses node i, 0 where none does
 unfoldable pub refusalAt : List ℕ → ℕ → ℕ
-unfolding tree ins outs taken childrenFree ruleFits
 refusalAt table i =
     pick (not (knownKind (kindAt table i))) 4
     (pick (not (firstInRange (kindAt table i) (firstAt table i) && secondInRange (kindAt table i) (secondAt table i))) 5
@@ -85,7 +83,6 @@ refusalAt table i =
 
 -- "the table, node by node": n nodes from i on, then what comes after the last
 unfoldable pub nodeByNode : List ℕ → (n i : ℕ) → Answer → Answer
-unfolding refusalAt
 nodeByNode table zero i rest = rest
 nodeByNode table (suc n) i rest = pick (eqb (refusalAt table i) 0) (nodeByNode table n (suc i) rest) (refusedAt (refusalAt table i) i)
 
@@ -111,7 +108,6 @@ uneven table = eqb (length table) 0 || not (eqb (length table % 3) 0)
 -- the whole check; "Refusal 3 has place 0 when the list is empty or its count of numbers is no multiple of three, otherwise 512"; p is the place
 -- with refusal 9
 unfoldable pub checked : ℕ → List ℕ → Answer
-unfolding nodeByNode taken tree ins outs need sumTo size
 checked p table =
     pick (uneven table) (refusedAt 3 0)
     (pick (ltb 512 (nodes table)) (refusedAt 3 512)

@@ -22,3 +22,6 @@ pub record Checked (table : List ℕ) (r : CheckAnswer) : Type 0 where
   pub place : ℕ
   pub isLoose : LoosePlace table place
   pub answer : answerOf r ≡ checked place table
+
+abbrev pub IsAccepted : CheckAnswer → Type 0
+IsAccepted r = (a : ℕ) × (b : ℕ) × (c : ℕ) × (d : ℕ) × (r ≡ Accepted a b c d)

@@ -6,7 +6,7 @@ pub mod Nodes
 pub mod Limits
 pub mod Check
 pub mod Checked
-pub mod Counts
 pub mod Survey
+pub mod Steps
 pub mod Formed
 pub mod Promise

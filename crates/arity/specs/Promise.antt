@@ -6,10 +6,11 @@ use lib.ListN.{length, getD}
 use Rattle.arity.specs.Tree.{ins, outs, size, need}
 use Rattle.arity.specs.Tree.Tree.{leaf, join, ondemand}
 use Rattle.arity.specs.Table.{kindAt, firstAt, secondAt, nodes, tree, circuit, primitiveOf, compositionOf}
+use Rattle.arity.specs.Rules.{Arity}
 use Rattle.arity.specs.WellFormed.{Times, WellFormed}
 use Rattle.arity.specs.Nodes.{Complete, subtree, cellsBefore}
 use Rattle.arity.specs.Limits.{Small}
-use Rattle.arity.specs.Counts.{rowAt}
+use Rattle.arity.specs.Survey.{rowAt}
 
 -- the entries of a table are words
 abbrev pub Words : List ℕ → Type 0
@@ -31,6 +32,7 @@ pub record Node (table : List ℕ) (i : ℕ) : Type 0 where
       → tree table i ≡ join i (compositionOf (kindAt table i)) (tree table (firstAt table i)) (tree table (secondAt table i))
   pub isOndemand : 12 ≤ kindAt table i → tree table i ≡ ondemand i (tree table (firstAt table i))
   pub wellFormed : WellFormed (tree table i)
+  pub arity : Arity (tree table i) (ins (tree table i)) (outs (tree table i))
   pub sequence : kindAt table i ≡ 7 → outs (tree table (firstAt table i)) ≡ ins (tree table (secondAt table i))
   pub split : kindAt table i ≡ 9 → Times (outs (tree table (firstAt table i))) (ins (tree table (secondAt table i)))
   pub merge : kindAt table i ≡ 10 → Times (ins (tree table (secondAt table i))) (outs (tree table (firstAt table i)))
@@ -47,6 +49,7 @@ pub record Promise (table : List ℕ) (inputs outputs instructions cells : ℕ) 
   pub whole : 3 * nodes table ≡ length table
   pub least : 1 ≤ nodes table
   pub most : nodes table ≤ 512
+  pub arity : Arity (circuit table) inputs outputs
   pub counted : (inputs ≡ ins (circuit table)) × (outputs ≡ outs (circuit table)) × (instructions ≡ need (circuit table))
   pub celled : cells ≡ cellsBefore (circuit table) (nodes table)
   pub modest : (instructions ≤ 65536) × (cells ≤ 2097152)
@@ -55,12 +58,9 @@ pub record Promise (table : List ℕ) (inputs outputs instructions cells : ℕ) 
   pub small : instructions ≤ 2048 → cells ≤ 16384 → Small (nodes table) (circuit table)
   pub node : (i : ℕ) → i < nodes table → Node table i
 
--- the rows that a survey leaves of an accepted table
-pub record Row (table shape : List ℕ) (i : ℕ) : Type 0 where
+-- the row of node i in the shape that a survey leaves of an accepted table
+pub record Shaped (table shape : List ℕ) (i : ℕ) : Type 0 where
   pub inputs : rowAt shape i .inputs ≡ ins (tree table i)
   pub outputs : rowAt shape i .outputs ≡ outs (tree table i)
   pub instructions : rowAt shape i .instructions ≡ need (tree table i)
   pub cell : rowAt shape i .cell ≡ cellsBefore (circuit table) i
-
-abbrev pub Rows : List ℕ → List ℕ → Type 0
-Rows table shape = (i : ℕ) → i < nodes table → Row table shape i

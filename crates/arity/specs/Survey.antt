@@ -1,19 +1,32 @@
--- The survey: the rows that the check leaves, and what its functions say from node to node.
-use Prim.Native.Nat.{ℕ, zero, suc, _≤_, _<_}
-use mathlib.Core.Path.{_≡_}
-use mathlib.Core.Bool.{Bool, true, not, _&&_}
+-- The survey: four numbers a node that the check leaves in a lent buffer, its shape.
+use Prim.Native.Nat.{ℕ, zero, suc, _+_, _*_}
 use mathlib.Core.List.{List}
-use lib.ListN.{length, getD, set}
-use lib.Dec.{eqb, leb, ltb}
-use Rattle.word.specs.Choice.{pick, bit}
-use Rattle.refusal.specs.Answer.{Answer, refusalOf, refusedAt}
-use Rattle.arity.specs.Table.{kindAt, firstAt, secondAt, nodes, tree}
-use Rattle.arity.specs.Check.{firstInRange, secondInRange, taken, refusalAt, uneven, firstCell}
-use Rattle.arity.specs.Counts.{countsOf, rowOf, rowAt, putRow}
-use Rattle.arity.specs.declared.node.Judged.{Judged}
-use Rattle.arity.specs.declared.node.Judged.the-variants.{Right, Wrong}
-use Rattle.arity.specs.declared.node.Stepped.{Stepped}
-use Rattle.arity.specs.declared.node.Stepped.the-variants.{Next, Stop}
+use lib.ListN.{getD, set}
+use lib.Dec.{eqb, ltb}
+use Rattle.word.specs.Choice.{pick}
+use Rattle.arity.specs.Tree.{Tree, ins, outs, need}
+use Rattle.arity.specs.Table.{nodes, tree}
+use Rattle.arity.specs.Check.{refusalAt, firstCell, uneven}
+use Rattle.arity.specs.declared.rows.Row.{Row}
+
+-- the row of node j in a shape, four numbers a node
+abbrev pub rowAt : List ℕ → ℕ → Row
+rowAt shape j = record {
+  inputs = getD shape (4 * j) 0;
+  outputs = getD shape (4 * j + 1) 0;
+  instructions = getD shape (4 * j + 2) 0;
+  cell = getD shape (4 * j + 3) 0;
+}
+
+abbrev pub putRow : List ℕ → ℕ → Row → List ℕ
+putRow shape j row = set (set (set (set shape (4 * j) (row .inputs)) (4 * j + 1) (row .outputs)) (4 * j + 2) (row .instructions)) (4 * j + 3) (row .cell)
+
+-- the row of a tree whose root has this first cell: inputs, outputs, instructions, first cell; and of node j of a table
+abbrev pub rowFor : Tree → ℕ → Row
+rowFor x cell = record { inputs = ins x; outputs = outs x; instructions = need x; cell = cell }
+
+abbrev pub rowOf : List ℕ → ℕ → Row
+rowOf table j = rowFor (tree table j) (firstCell table j)
 
 -- how many of n nodes from i on stand before the first refused one
 unfoldable pub passing : List ℕ → (n i : ℕ) → ℕ
@@ -28,50 +41,3 @@ filled table (suc i) shape = putRow (filled table i shape) i (rowOf table i)
 -- what the survey makes of a shape: a row for each node before the first refused one, none where the count of nodes is wrong; the rest stays
 unfoldable pub surveyed : List ℕ → List ℕ → List ℕ
 surveyed table shape = filled table (pick (uneven table) 0 (pick (ltb 512 (nodes table)) 0 (passing table (nodes table) 0))) shape
-
--- the survey before node i: no node was refused, each has its row, and each child its mark
-pub record State (table shape marks : List ℕ) (i : ℕ) : Type 0 where
-  pub most : nodes table ≤ 512
-  pub room : length shape ≡ 2048
-  pub long : length marks ≡ 512
-  pub right : (j : ℕ) → j < i → refusalAt table j ≡ 0
-  pub rows : (j : ℕ) → j < i → rowAt shape j ≡ rowOf table j
-  pub marked : (c : ℕ) → c < 512 → getD marks c 0 ≡ bit (taken table i c)
-
--- refusal 6 by the marks
-abbrev pub freeIn : List ℕ → ℕ → ℕ → Bool
-freeIn marks i c = ltb c i && eqb (getD marks c 0) 0
-
-abbrev pub childrenIn : ℕ → List ℕ → (i l r : ℕ) → Bool
-childrenIn kind marks i l r = pick (leb kind 11) (not (eqb l r) && (freeIn marks i l && freeIn marks i r)) (freeIn marks i l)
-
--- the marks with the children of one more node
-abbrev pub marking : ℕ → ℕ → ℕ → List ℕ → List ℕ
-marking kind l r marks = pick (leb kind 6) marks (pick (leb kind 11) (set (set marks l 1) r 1) (set marks l 1))
-
--- node i has children, and 4 and 5 do not refuse it
-pub record Branching (table : List ℕ) (i : ℕ) : Type 0 where
-  pub inside : i < nodes table
-  pub least : 7 ≤ kindAt table i
-  pub most : kindAt table i ≤ 12
-  pub first : firstInRange (kindAt table i) (firstAt table i) ≡ true
-  pub second : secondInRange (kindAt table i) (secondAt table i) ≡ true
-
--- what is found of node i: its counts, or its refusal
-abbrev pub Refuses : List ℕ → ℕ → Answer → Type 0
-Refuses table i a = (a ≡ refusedAt (refusalAt table i) i) × (refusalAt table i ≡ 0 → ⊥)
-
-abbrev pub Judges : List ℕ → ℕ → Judged → Type 0
-Judges table i (Right n) = (refusalAt table i ≡ 0) × (n ≡ countsOf (tree table i))
-Judges table i (Wrong r) = Refuses table i (refusalOf r)
-
--- after a step at node i from the shape s: one node more, or the node's refusal
-abbrev pub Steps : List ℕ → ℕ → Stepped → (s shape marks : List ℕ) → Type 0
-Steps table i (Next cell) s shape marks = State table shape marks (suc i) × (cell ≡ firstCell table (suc i)) × (shape ≡ putRow s i (rowOf table i))
-Steps table i (Stop r) s shape marks = Refuses table i (refusalOf r) × (shape ≡ s)
-
--- r is the lowest unmarked one of n nodes but the last, or n where there is none
-pub record FoundLoose (marks : List ℕ) (n r : ℕ) : Type 0 where
-  pub within : r ≤ n
-  pub found : r < n → (suc r < n) × (getD marks r 0 ≡ 0)
-  pub lowest : (j : ℕ) → j < r → suc j < n → getD marks j 0 ≡ 0 → ⊥

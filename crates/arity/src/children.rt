@@ -1,7 +1,7 @@
 // Refusals 6 and 9: which nodes are taken, one mark a node.
 ghost use mathlib.Core.Path.{_≡_};
 ghost use Prim.Native.Nat.{_≤_, _<_};
-ghost use Rattle.arity.specs.Survey.{freeIn, childrenIn, marking, FoundLoose};
+ghost use Rattle.arity.specs.Steps.{freeIn, childrenIn, marking, FoundLoose};
 
 // A child is lower, and no node before has it.
 fn is_free(marks: &[u32; 512], node: usize, child: usize) -> bool

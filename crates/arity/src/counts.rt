@@ -1,18 +1,10 @@
-// The counts of a node, and the rows of the survey that keep them.
-use word::index;
+// The counts of a node, by its kind.
+use super::rows::Row;
 ghost use mathlib.Core.Path.{_≡_};
-ghost use Prim.Native.Nat.{_≤_, _<_};
+ghost use Prim.Native.Nat.{_≤_};
 ghost use Rattle.arity.specs.Tree.{leaf};
 ghost use Rattle.arity.specs.Table.{primitiveOf};
-ghost use Rattle.arity.specs.Counts.{countsOf, rowAt, putRow, jointCounts, Joinable};
-
-// Four numbers a node in the survey: the inputs, outputs and instructions of its tree, and its first cell.
-pub struct Row {
-    pub inputs: u32,
-    pub outputs: u32,
-    pub instructions: u32,
-    pub cell: u32,
-}
+ghost use Rattle.arity.specs.Steps.{countsOf, Joins, Joinable};
 
 // The inputs, outputs and instructions of a node's tree, and how many cells the node owns.
 pub struct Counts {
@@ -20,50 +12,6 @@ pub struct Counts {
     pub outputs: u32,
     pub instructions: u32,
     pub cells: u32,
-}
-
-pub fn row_at(shape: &[u32; 2048], node: usize) -> Row
-    requires { ⌜ node < 512 ⌝ }
-    ensures { λ r. ⌜ r ≡ rowAt (now (shape .entry)) node ⌝ }
-{
-    Row {
-        inputs: shape[4 * node],
-        outputs: shape[4 * node + 1],
-        instructions: shape[4 * node + 2],
-        cell: shape[4 * node + 3],
-    }
-}
-
-// The inputs, the outputs and the first cell of a node, as places.
-pub fn inputs_of(shape: &[u32; 2048], node: usize) -> usize
-    requires { ⌜ node < 512 ⌝ }
-    ensures { λ r. ⌜ r ≡ rowAt (now (shape .entry)) node .inputs ⌝ }
-{
-    index(shape[4 * node])
-}
-
-pub fn outputs_of(shape: &[u32; 2048], node: usize) -> usize
-    requires { ⌜ node < 512 ⌝ }
-    ensures { λ r. ⌜ r ≡ rowAt (now (shape .entry)) node .outputs ⌝ }
-{
-    index(shape[4 * node + 1])
-}
-
-pub fn cell_of(shape: &[u32; 2048], node: usize) -> usize
-    requires { ⌜ node < 512 ⌝ }
-    ensures { λ r. ⌜ r ≡ rowAt (now (shape .entry)) node .cell ⌝ }
-{
-    index(shape[4 * node + 3])
-}
-
-pub fn put_row(shape: &mut [u32; 2048], node: usize, row: Row)
-    requires { ⌜ node < 512 ⌝ }
-    ensures { λ _. ⌜ now (shape .exit) ≡ putRow (now (shape .entry)) node row ⌝ }
-{
-    shape[4 * node] = row.inputs;
-    shape[4 * node + 1] = row.outputs;
-    shape[4 * node + 2] = row.instructions;
-    shape[4 * node + 3] = row.cell;
 }
 
 // A node without children.
@@ -114,7 +62,7 @@ pub fn leaf_counts(kind: u32, first: u32) -> Counts
 // A node with the rows of its left and right side; an ondemand has no right.
 pub fn joint_counts(kind: u32, l: Row, r: Row) -> Counts
     requires { ⌜ Joinable kind l r ⌝ }
-    ensures { λ n. ⌜ n ≡ jointCounts kind l r ⌝ }
+    ensures { λ n. ⌜ Joins kind l r n ⌝ }
 {
     if kind == 8 {
         return Counts {

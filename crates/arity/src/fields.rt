@@ -25,13 +25,6 @@ pub fn second_of(table: &[u32], node: usize) -> u32
     table[3 * node + 2]
 }
 
-// A number of a table as an index.
-pub fn wide(x: u32) -> usize
-    ensures { λ r. ⌜ r ≡ x ⌝ }
-{
-    x as usize
-}
-
 // Refusal 5 for the first field, where it is no child.
 pub fn first_in_range(kind: u32, first: u32) -> bool
     ensures { λ r. ⌜ r ≡ firstInRange kind first ⌝ }

@@ -1,15 +1,16 @@
 // The arity check: which tables are circuits, and the counts of their nodes.
 mod children;
-pub mod counts;
+mod counts;
 pub mod fields;
 mod node;
+pub mod rows;
 mod rules;
 
 use children::find_loose;
-use counts::row_at;
 use node::Stepped;
 use node::step;
 use refusal::Refusal;
+use rows::row_at;
 ghost use mathlib.Core.Path.{_≡_};
 ghost use lib.ListN.{length};
 ghost use Rattle.arity.specs.Checked.{Checked};

@@ -2,24 +2,24 @@
 use super::children::children_free;
 use super::children::mark;
 use super::counts::Counts;
-use super::counts::Row;
 use super::counts::joint_counts;
 use super::counts::leaf_counts;
-use super::counts::put_row;
-use super::counts::row_at;
 use super::fields::first_in_range;
 use super::fields::first_of;
 use super::fields::kind_of;
 use super::fields::second_in_range;
 use super::fields::second_of;
-use super::fields::wide;
+use super::rows::Row;
+use super::rows::put_row;
+use super::rows::row_at;
 use super::rules::rule_fits;
 use refusal::Refusal;
+use word::index;
 ghost use mathlib.Core.Path.{_≡_};
 ghost use Prim.Native.Nat.{_<_};
 ghost use Rattle.arity.specs.Table.{nodes};
 ghost use Rattle.arity.specs.Check.{firstCell};
-ghost use Rattle.arity.specs.Survey.{State, Branching, Judges, Steps};
+ghost use Rattle.arity.specs.Steps.{State, Branching, Judges, Steps};
 
 // What is found of a node.
 pub enum Judged {
@@ -40,8 +40,8 @@ fn judge_children(table: &[u32], shape: &[u32; 2048], marks: &[u32; 512], node: 
     ensures { λ r. ⌜ Judges (now (table .entry)) node r ⌝ }
 {
     let kind = kind_of(table, node);
-    let left = wide(first_of(table, node));
-    let right = wide(second_of(table, node));
+    let left = index(first_of(table, node));
+    let right = index(second_of(table, node));
     let place = node as u32;
     if !children_free(kind, marks, node, left, right) {
         return Judged::Wrong(Refusal::WrongChild(place));
@@ -117,8 +117,8 @@ pub fn step(
                 },
             );
             let kind = kind_of(table, node);
-            let left = wide(first_of(table, node));
-            let right = wide(second_of(table, node));
+            let left = index(first_of(table, node));
+            let right = index(second_of(table, node));
             mark(kind, marks, left, right);
             Stepped::Next(cell + n.cells)
         }

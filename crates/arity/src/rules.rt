@@ -1,8 +1,8 @@
 // Refusal 7: the arity rules.
-use super::counts::Row;
+use super::rows::Row;
 ghost use mathlib.Core.Path.{_≡_};
 ghost use Rattle.arity.specs.Check.{multiple};
-ghost use Rattle.arity.specs.Counts.{ruleOf};
+ghost use Rattle.arity.specs.Steps.{ruleOf};
 
 // Whether n is b some number of times, at least once.
 fn is_multiple(b: u32, n: u32) -> bool

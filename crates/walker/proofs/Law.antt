@@ -2,7 +2,7 @@
 use Prim.Native.Nat.{ℕ, _+_, _-_, _≤_}
 use mathlib.Core.Path.{_≡_, refl, sym, ap, ap₂, _∙_}
 use mathlib.Core.Bool.{Bool, true, false}
-use mathlib.Core.Logic.{_⊎_, inl, inr}
+use mathlib.Core.Logic.{inl, inr}
 use mathlib.Core.List.{List, [], _∷_, _++_, map, reverseAux, reverseAux-append, flatten, append-assoc, append-nil}
 use native.Mathlib.Omega.{arith}
 use lib.ListN.{length, drop, take, length-replicate, replicate-append-replicate, take-append-drop}
@@ -13,13 +13,13 @@ use Rattle.word.specs.Tick.{Tick, zeros, Each}
 use Rattle.refusal.specs.Answer.{count, refusedAll}
 use Rattle.cells.specs.Block.{counted}
 use Rattle.cells.specs.Load.{Loaded, loaded}
-use Rattle.arity.specs.Tree.{Tree, ins, outs}
+use Rattle.arity.specs.Tree.{Tree, ins}
 use Rattle.arity.specs.Nodes.{Complete, cellsBefore}
 use Rattle.arity.specs.WellFormed.{WellFormed}
 use Rattle.signal.specs.Signal.{History, samples}
 use Rattle.signal.proofs.Causal.{causal}
-use Rattle.walker.specs.Calls.{Call, Event, worked, blockAfter, events, left, heard, heardBy, history, written, Of, Refused, OnlyOf, due}
-use Rattle.walker.specs.Law.{Keeps, Lawful}
+use Rattle.walker.specs.Calls.{Call, worked, blockAfter, events, left, heard, heardBy, history, written, OnlyOf}
+use Rattle.walker.specs.Law.{Answers, Keeps, Lawful}
 use Rattle.walker.proofs.Run.{after, walk-right}
 use Rattle.walker.proofs.Plays.{cellsAt}
 use Rattle.walker.proofs.Handled.{Leaves, refused-leaves, own-call}
@@ -54,7 +54,7 @@ module _ (n : ℕ) (t : Tree) (w : WellFormed t) (c : Complete n t) where
 
   -- the calls from a block that holds the cells of the history h
   record LawfulFrom (h : History) (block : List ℕ) (calls : List Call) : Type 0 where
-    answers : Each (λ (e : Event). Of n t (e .call) → e .result .answer ≡ due (ins t) (outs t) (cellsBefore t n) (e .call)) (events block calls)
+    answers : Each (Answers n t) (events block calls)
     buffers : Each Keeps (events block calls)
     meaning : samples t h ++ written block calls ≡ samples t (reverseAux (allHeard block calls) h)
     cells : take (cellsBefore t n) (left block calls) ≡ cellsAt n t w c (reverseAux (allHeard block calls) h)

@@ -13,7 +13,7 @@ use Rattle.cells.specs.Delay.{delayed, moved}
 use Rattle.arity.specs.Tree.{Tree, ins, outs, size}
 use Rattle.arity.specs.Tree.Tree.{leaf, ondemand}
 use Rattle.arity.specs.Table.{nodes, kindAt, firstAt, primitiveOf, tree}
-use Rattle.arity.specs.Counts.{rowAt}
+use Rattle.arity.specs.Survey.{rowAt}
 use Rattle.arity.specs.Promise.{Node}
 use Rattle.walker.specs.Step.{step}
 use Rattle.walker.specs.Ready.{base, Ready, leftTree, outsOf, Demands, Holding, Ticked}

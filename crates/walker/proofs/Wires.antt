@@ -12,7 +12,7 @@ use Rattle.cells.specs.Cells.{part, store}
 use Rattle.arity.specs.Tree.{ins, outs, size}
 use Rattle.arity.specs.Tree.Tree.{join}
 use Rattle.arity.specs.Table.{nodes, kindAt, firstAt, secondAt, compositionOf, tree}
-use Rattle.arity.specs.Counts.{rowAt}
+use Rattle.arity.specs.Survey.{rowAt}
 use Rattle.arity.specs.Promise.{Node}
 use Rattle.arity.proofs.Times.{times-whole, times-least}
 use Rattle.signal.specs.Signal.{copies, sums}

@@ -10,7 +10,7 @@ use Rattle.cells.specs.Cells.{part}
 use Rattle.arity.specs.Tree.{Tree, Composition, ins, outs}
 use Rattle.arity.specs.Table.{nodes, kindAt, firstAt, secondAt, compositionOf, tree, circuit}
 use Rattle.arity.specs.Nodes.{cellsBefore}
-use Rattle.arity.specs.Promise.{Node, Rows}
+use Rattle.arity.specs.Promise.{Node, Shaped}
 use Rattle.walker.specs.Step.{step}
 use Rattle.walker.specs.Wiring.{firstInputs, secondInputs, joinOutputs, keptCells}
 
@@ -21,7 +21,7 @@ base table = cellsBefore (circuit table)
 pub record Ready (table shape : List ℕ) : Type 0 where
   pub few : nodes table ≤ 512
   pub node : (i : ℕ) → i < nodes table → Node table i
-  pub row : Rows table shape
+  pub row : (i : ℕ) → i < nodes table → Shaped table shape i
 
 -- as many cells as the table needs
 abbrev pub Roomy : List ℕ → ℕ → Type 0

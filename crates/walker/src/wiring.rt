@@ -1,10 +1,10 @@
 // The wires of a composition: which child runs first, what each is given, and what becomes of their outputs.
-use arity::counts::cell_of;
-use arity::counts::inputs_of;
-use arity::counts::outputs_of;
 use arity::fields::first_of;
 use arity::fields::kind_of;
 use arity::fields::second_of;
+use arity::rows::cell_of;
+use arity::rows::inputs_of;
+use arity::rows::outputs_of;
 use beam::after;
 use beam::fetched;
 use beam::joined;

@@ -6,7 +6,8 @@ use mathlib.Core.Logic.{inl, inr}
 use native.Mathlib.Numerals.{add-one}
 use native.Mathlib.Omega.{arith}
 use Rattle.arity.specs.Check.{firstCell}
-use Rattle.arity.specs.Survey.{State, filled}
+use Rattle.arity.specs.Survey.{filled}
+use Rattle.arity.specs.Steps.{State}
 use Rattle.arity.proofs.End.{start-state, no-cells, filled-none, filled-more, ends-uneven, ends-long, ends-refused, ends-loose, ends-accepted, stepped-next, stepped-stop}
 use Rattle.arity.proofs.survey.Statement.{statement}
 use Rattle.arity.proofs.survey.Tie as tie

@@ -5,7 +5,7 @@ use mathlib.Core.Path.{_≡_, sym, _∙_}
 use mathlib.Core.Bool.{Bool, true, false}
 use mathlib.Core.List.{List}
 use borrow.Author.Tests.{le-leb, lt-leb, eq-eqb, ne-eqb}
-use Rattle.arity.specs.Survey.{freeIn, childrenIn}
+use Rattle.arity.specs.Steps.{freeIn, childrenIn}
 use Rattle.arity.proofs.children.children_free.Statement.{statement}
 use Rattle.arity.proofs.children.children_free.Tie as tie
 

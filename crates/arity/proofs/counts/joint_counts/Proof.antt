@@ -1,7 +1,6 @@
--- By kind, as the definition goes; the rules of merge and recursion keep the differences from falling below 0.
+-- By kind; the rules of merge and recursion keep the differences from falling below 0.
 use borrow.Author.Needs.{needs}
-use borrow.Author.Tests.{ne-eqb}
-use Rattle.arity.proofs.Joint.{merge-less, loop-less}
+use Rattle.arity.proofs.Joint.{merge-less, loop-less, joins-parallel, joins-merge, joins-recursion, joins-ondemand, joins-other}
 use Rattle.arity.proofs.counts.joint_counts.Statement.{statement}
 use Rattle.arity.proofs.counts.joint_counts.Tie as tie
 
@@ -15,7 +14,7 @@ add-t7 : tie.Need-add-t7
 add-t7 c = search needs
 
 returns : tie.Need-returns
-returns c = rw (c .before .before .before .before .before .before .if1 .taken)
+returns c = joins-parallel (c .before .before .before .before .before .before .if1 .taken)
 
 add-t8 : tie.Need-add-t8
 add-t8 c = search needs
@@ -27,7 +26,7 @@ add-t10 : tie.Need-add-t10
 add-t10 c = search needs
 
 returns-2 : tie.Need-returns-2
-returns-2 c = rw (c .before .before .before .before .if2 .taken)
+returns-2 c = joins-merge (c .before .before .before .before .if2 .taken)
 
 sub-t11 : tie.Need-sub-t11
 sub-t11 c = let s = c .before .before .before .before .before in loop-less (s .args .kind) (s .args .l) (s .args .r) (c .before .before .if3 .taken) (s .pre .fits)
@@ -42,7 +41,7 @@ add-t14 : tie.Need-add-t14
 add-t14 c = search needs
 
 returns-3 : tie.Need-returns-3
-returns-3 c = rw (c .before .before .before .before .before .if3 .taken)
+returns-3 c = joins-recursion (c .before .before .before .before .before .if3 .taken)
 
 add-t15 : tie.Need-add-t15
 add-t15 c = search needs
@@ -57,13 +56,13 @@ add-t18 : tie.Need-add-t18
 add-t18 c = search needs
 
 returns-4 : tie.Need-returns-4
-returns-4 c = rw (c .before .before .before .if4 .taken)
+returns-4 c = joins-ondemand (c .before .before .before .if4 .taken)
 
 add-t19 : tie.Need-add-t19
 add-t19 c = search needs
 
 returns-5 : tie.Need-returns-5
-returns-5 c = rw (ne-eqb _ 8 (c .before .before .before .before .before .if1 .left), ne-eqb _ 10 (c .before .before .before .before .if2 .left), ne-eqb _ 11 (c .before .before .before .if3 .left), ne-eqb _ 12 (c .before .before .if4 .left))
+returns-5 c = joins-other (c .before .before .before .before .before .before .pre) (c .before .before .before .before .before .if1 .left) (c .before .before .before .before .if2 .left) (c .before .before .before .if3 .left) (c .before .before .if4 .left)
 
 pub joint-counts-spec : {M : Type 1} → statement M
 joint-counts-spec =

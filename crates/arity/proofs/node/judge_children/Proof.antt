@@ -6,8 +6,8 @@ use Rattle.arity.proofs.node.judge_children.Statement.{statement}
 use Rattle.arity.proofs.node.judge_children.Tie as tie
 
 -- the node as it was read
-read : (c : tie.After-children-free) → Read (c .before .before .before .before .before .before .before .args .table .now) (c .before .before .before .before .before .before .before .args .node) (c .before .before .before .before .before .kind-of .result) (c .before .before .before .wide .result) (c .before .wide2 .result)
-read c = record { kind = c .before .before .before .before .before .kind-of .ensures; first = c .before .before .before .wide .ensures ∙ c .before .before .before .before .first-of .ensures; second = c .before .wide2 .ensures ∙ c .before .before .second-of .ensures }
+read : (c : tie.After-children-free) → Read (c .before .before .before .before .before .before .before .args .table .now) (c .before .before .before .before .before .before .before .args .node) (c .before .before .before .before .before .kind-of .result) (c .before .before .before .index .result) (c .before .index2 .result)
+read c = record { kind = c .before .before .before .before .before .kind-of .ensures; first = c .before .before .before .index .ensures ∙ c .before .before .before .before .first-of .ensures; second = c .before .index2 .ensures ∙ c .before .before .second-of .ensures }
 
 kind-of-requires : tie.Need-kind-of-requires
 kind-of-requires c κs = search needs
@@ -15,14 +15,14 @@ kind-of-requires c κs = search needs
 first-of-requires : tie.Need-first-of-requires
 first-of-requires c κs = search needs
 
-wide-requires : tie.Need-wide-requires
-wide-requires c κs = search needs
+index-requires : tie.Need-index-requires
+index-requires c κs = search needs
 
 second-of-requires : tie.Need-second-of-requires
 second-of-requires c κs = search needs
 
-wide-requires-2 : tie.Need-wide-requires-2
-wide-requires-2 c κs = search needs
+index-requires-2 : tie.Need-index-requires-2
+index-requires-2 c κs = search needs
 
 cast-place : tie.Need-cast-place
 cast-place c = search needs
@@ -73,9 +73,9 @@ judge-children-spec =
     (tie.spec
     kind-of-requires
     first-of-requires
-    wide-requires
+    index-requires
     second-of-requires
-    wide-requires-2
+    index-requires-2
     cast-place
     children-free-requires
     returns

@@ -4,7 +4,7 @@ use mathlib.Core.Path.{_≡_, refl, _∙_}
 use native.Mathlib.Omega.{arith}
 use Rattle.arity.specs.Table.{tree}
 use Rattle.arity.specs.Check.{refusalAt}
-use Rattle.arity.specs.Counts.{countsOf}
+use Rattle.arity.specs.Steps.{countsOf}
 use Rattle.arity.proofs.Next.{judged-right, judged-wrong, next, markable, cells-fit}
 use Rattle.arity.proofs.node.step.Statement.{statement}
 use Rattle.arity.proofs.node.step.Tie as tie
@@ -31,20 +31,20 @@ kind-of-requires c κs = search needs
 first-of-requires : tie.Need-first-of-requires
 first-of-requires c κs = search needs
 
-wide-requires : tie.Need-wide-requires
-wide-requires c κs = search needs
+index-requires : tie.Need-index-requires
+index-requires c κs = search needs
 
 second-of-requires : tie.Need-second-of-requires
 second-of-requires c κs = search needs
 
-wide-requires-2 : tie.Need-wide-requires-2
-wide-requires-2 c κs = search needs
+index-requires-2 : tie.Need-index-requires-2
+index-requires-2 c κs = search needs
 
 mark-requires : tie.Need-mark-requires
 mark-requires c κs =
     let z = c .before .before .before .before .before .before .before .before .before .before .before .before .before .before .before .pre in
     let f = found (c .before .before .before .before .before .before .before .before .before) in
-    markable (z .0) (z .1 .0) (f .0) (c .before .before .before .before .before .kind-of .ensures) (c .before .before .before .wide .ensures ∙ c .before .before .before .before .first-of .ensures) (c .before .wide2 .ensures ∙ c .before .before .second-of .ensures)
+    markable (z .0) (z .1 .0) (f .0) (c .before .before .before .before .before .kind-of .ensures) (c .before .before .before .index .ensures ∙ c .before .before .before .before .first-of .ensures) (c .before .index2 .ensures ∙ c .before .before .second-of .ensures)
 
 add-t18 : tie.Need-add-t18
 add-t18 c =
@@ -59,7 +59,7 @@ returns-2 : tie.Need-returns-2
 returns-2 c =
     let z = c .before .before .before .before .before .before .before .before .before .before .before .before .before .before .before .before .before .pre in
     let f = found (c .before .before .before .before .before .before .before .before .before .before .before) in
-    next (z .0) (z .1 .0) (f .0) _ _ _ _ _ _ _ (z .1 .1) (f .1) (c .before .before .before .before .before .before .before .kind-of .ensures) (c .before .before .before .before .before .wide .ensures ∙ c .before .before .before .before .before .before .first-of .ensures) (c .before .before .before .wide2 .ensures ∙ c .before .before .before .before .second-of .ensures) (c .before .before .before .before .before .before .before .before .put-row .ensures) (c .before .mark .ensures)
+    next (z .0) (z .1 .0) (f .0) _ _ _ _ _ _ _ (z .1 .1) (f .1) (c .before .before .before .before .before .before .before .kind-of .ensures) (c .before .before .before .before .before .index .ensures ∙ c .before .before .before .before .before .before .first-of .ensures) (c .before .before .before .index2 .ensures ∙ c .before .before .before .before .second-of .ensures) (c .before .before .before .before .before .before .before .before .put-row .ensures) (c .before .mark .ensures)
 
 pub step-spec : {M : Type 1} → statement M
 step-spec =
@@ -71,9 +71,9 @@ step-spec =
     put-row-requires
     kind-of-requires
     first-of-requires
-    wide-requires
+    index-requires
     second-of-requires
-    wide-requires-2
+    index-requires-2
     mark-requires
     add-t18
     returns
