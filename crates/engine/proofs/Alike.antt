@@ -25,6 +25,7 @@ use Rattle.flat.proofs.Encoding.{decode-encode}
 use Rattle.translator.specs.Translated.{translation}
 use Rattle.translator.proofs.Checked.{translation-ok, results-length}
 use Rattle.translator.proofs.Ticks.{played-same}
+use Rattle.engine.specs.Runs.{Run, resultOf}
 
 -- a code that passed the check is worked as any circuit is
 checks-called : (k : Code) (ticks : ℕ) (inputs controls cells outputs : List ℕ)
@@ -64,19 +65,20 @@ module _ (n : ℕ) (t : Tree) (w : WellFormed t) (c : Complete n t) (ticks : ℕ
       (checks-called (translation n t) ticks inputs controls cells outputs ∙ rw (results-length n t w c) same-call)
 
 -- a refused run of any code changes nothing
-pub refused-nothing : (code : List ℕ) (ticks : ℕ) (inputs controls cells outputs : List ℕ) (x : ℕ) (p : ℤ)
-    → ran code ticks inputs controls cells outputs .answer ≡ refused x p → ran code ticks inputs controls cells outputs ≡ unchanged (refused x p) cells outputs
+pub refused-nothing : (q : Run) (cells : List ℕ) (x : ℕ) (p : ℤ) → resultOf q cells .answer ≡ refused x p → resultOf q cells ≡ unchanged (refused x p) cells (q .outputs)
 unfolding ran checks runs
-refused-nothing code ticks inputs controls cells outputs x p e =
-    go (codeOk code) (blockOk (decode code .inputs) ticks inputs controls) (leb (decode code .cells) (length cells) and leb (ticks * length (decode code .results)) (length outputs)) e
+refused-nothing q cells x p e =
+    let k : Code = decode (q .code) in
+    go (codeOk (q .code)) (blockOk (k .inputs) (q .ticks) (q .inputs) (q .controls)) (leb (k .cells) (length cells) and leb (q .ticks * length (k .results)) (length (q .outputs))) e
   where
     result : Bool → Bool → Bool → Ran
-    result a b d = pick a (pick b (pick d (runs (decode code) ticks inputs controls cells outputs) (refusal 12 cells outputs)) (refusal 14 cells outputs)) (refusal 13 cells outputs)
+    result a b d =
+        pick a (pick b (pick d (runs (decode (q .code)) (q .ticks) (q .inputs) (q .controls) cells (q .outputs)) (refusal 12 cells (q .outputs))) (refusal 14 cells (q .outputs))) (refusal 13 cells (q .outputs))
 
-    same : (y : ℕ) → refusedAll y ≡ refused x p → refusal y cells outputs ≡ unchanged (refused x p) cells outputs
-    same y g = ap (λ z. unchanged z cells outputs) g
+    same : (y : ℕ) → refusedAll y ≡ refused x p → refusal y cells (q .outputs) ≡ unchanged (refused x p) cells (q .outputs)
+    same y g = ap (λ z. unchanged z cells (q .outputs)) g
 
-    go : (a b d : Bool) → result a b d .answer ≡ refused x p → result a b d ≡ unchanged (refused x p) cells outputs
+    go : (a b d : Bool) → result a b d .answer ≡ refused x p → result a b d ≡ unchanged (refused x p) cells (q .outputs)
     go true true true g = absurd (let z : _≡_ {A = ℕ} 0 1 = cc in omega arith)
     go true true false g = same 12 g
     go true false d g = same 14 g

@@ -5,24 +5,36 @@ use mathlib.Core.Bool.{Bool, true, false}
 use mathlib.Core.Logic.{inl, inr}
 use mathlib.Core.List.{List, [], _∷_, _++_, map, reverseAux, reverseAux-append, flatten, append-assoc, append-nil}
 use native.Mathlib.Omega.{arith}
+use lib.IntN.{ℤ}
 use lib.ListN.{length, drop, take, length-replicate, replicate-append-replicate, take-append-drop}
 use lib.Seq.{take-at}
 use lib.Dec.{leb}
 use Rattle.word.specs.Choice.{pick}
 use Rattle.word.specs.Tick.{Tick, zeros, Each}
 use Rattle.refusal.specs.Answer.{count, refusedAll}
-use Rattle.cells.specs.Block.{counted}
+use Rattle.refusal.specs.Answer.Answer.{refused}
+use Rattle.cells.specs.Block.{unchanged, counted}
 use Rattle.cells.specs.Load.{Loaded, loaded}
 use Rattle.arity.specs.Tree.{Tree, ins}
 use Rattle.arity.specs.Nodes.{Complete, cellsBefore}
 use Rattle.arity.specs.WellFormed.{WellFormed}
 use Rattle.signal.specs.Signal.{History, samples}
 use Rattle.signal.proofs.Causal.{causal}
-use Rattle.walker.specs.Calls.{Call, worked, blockAfter, events, left, heard, heardBy, history, written, OnlyOf}
+use Rattle.walker.specs.Calls.{Call, worked, blockAfter, events, left, heard, heardBy, history, written, OnlyOf, Of, OwnOrRefused}
 use Rattle.walker.specs.Law.{Answers, Keeps, Lawful}
 use Rattle.walker.proofs.Run.{after, walk-right}
 use Rattle.walker.proofs.Plays.{cellsAt}
 use Rattle.walker.proofs.Handled.{Leaves, refused-leaves, own-call}
+
+-- calls of a circuit, and refused ones that write nothing
+module _ (n : ℕ) (t : Tree) {A : Type 0} (call : A → Call) (Own : A → Type 0) (own : (x : A) → Own x → Of n t (call x))
+    (nothing : (x : A) (cells : List ℕ) (r : ℕ) (p : ℤ) → call x .work cells .answer ≡ refused r p → call x .work cells ≡ unchanged (refused r p) cells (call x .outputs)) where
+  pub only-of : (block : List ℕ) (xs : List A) → OwnOrRefused call Own block xs → Each (OnlyOf n t) (events block (map call xs))
+  unfolding OwnOrRefused events
+  only-of block [] o = tt
+  only-of block (x ∷ xs) (inl e, o) = (inl (own x e), only-of (blockAfter (call x) block) xs o)
+  only-of block (x ∷ xs) (inr (r, p, e), o) =
+      (inr (record { number = r; place = p; nothing = nothing x (take (call x .lent) block) r p e }), only-of (blockAfter (call x) block) xs o)
 
 -- an accepted load
 pub loaded-cells : (named : ℕ) (cells : List ℕ) → loaded named cells .answer ≡ count named → loaded named cells .cells ≡ zeros named ++ drop named cells

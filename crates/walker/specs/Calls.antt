@@ -83,6 +83,12 @@ pub record Refused (e : Event) : Type 0 where
 abbrev pub OnlyOf : ℕ → Tree → Event → Type 0
 OnlyOf n t e = Of n t (e .call) ⊎ Refused e
 
+-- each call is one of Own, or is refused: "any other refused calls may lie between"
+unfoldable pub OwnOrRefused : {A : Type 0} → (A → Call) → (A → Type 0) → List ℕ → List A → Type 0
+OwnOrRefused call Own block [] = Unit {0}
+OwnOrRefused call Own block (x ∷ xs) =
+    (Own x ⊎ ((r : ℕ) × (p : ℤ) × (worked (call x) block .answer ≡ refused r p))) × OwnOrRefused call Own (blockAfter (call x) block) xs
+
 -- the answer that rows 14 and 12 ask for, of a circuit with n inputs, m outputs and k cells
 unfoldable pub due : (n m k : ℕ) → Call → Answer
 due n m k c =

@@ -1,0 +1,67 @@
+-- The definitions on samples, by computation: texts, columns that are numbers or not, and the document's integrator.
+use Prim.Native.Nat.{ℕ}
+use mathlib.Core.Path.{_≡_, refl}
+use mathlib.Core.List.{List, [], _∷_, _++_, map}
+use mathlib.Core.Option.{none, some}
+use lib.IntN.{pos, negsuc}
+use Rattle.refusal.specs.Answer.{count, refusedAt, refusedAll}
+use Rattle.word.specs.Word.{value, low}
+use Rattle.column.specs.Checks.{called}
+use Rattle.column.specs.Number.{digits, decimal, numeral, column, candidate, numberIn}
+use Rattle.column.specs.Line.{nodeLine, lines, lineRefusal}
+use Rattle.column.specs.File.{fileRefusal, reading, lineOf, countRefusal, writing}
+
+-- "  -1", and a number that fills its column
+text-of-minus-one : column 4 (negsuc 0) ≡ 32 ∷ 32 ∷ 45 ∷ 49 ∷ []
+unfolding column numeral decimal digits
+text-of-minus-one = refl
+
+text-of-the-least : column 11 (negsuc 2147483647) ≡ 45 ∷ 50 ∷ 49 ∷ 52 ∷ 55 ∷ 52 ∷ 56 ∷ 51 ∷ 54 ∷ 52 ∷ 56 ∷ []
+unfolding column numeral decimal digits
+text-of-the-least = refl
+
+-- what columns are read as: "   0", "  -0", "  01", "  +1", " - 1", "7   ", "    ", then the ends of the range and one beyond each
+columns-read :
+    map numberIn
+    ((32 ∷ 32 ∷ 32 ∷ 48 ∷ []) ∷
+    (32 ∷ 32 ∷ 45 ∷ 48 ∷ []) ∷
+    (32 ∷ 32 ∷ 48 ∷ 49 ∷ []) ∷
+    (32 ∷ 32 ∷ 43 ∷ 49 ∷ []) ∷
+    (32 ∷ 45 ∷ 32 ∷ 49 ∷ []) ∷
+    (55 ∷ 32 ∷ 32 ∷ 32 ∷ []) ∷
+    (32 ∷ 32 ∷ 32 ∷ 32 ∷ []) ∷
+    (50 ∷ 49 ∷ 52 ∷ 55 ∷ 52 ∷ 56 ∷ 51 ∷ 54 ∷ 52 ∷ 55 ∷ []) ∷
+    (50 ∷ 49 ∷ 52 ∷ 55 ∷ 52 ∷ 56 ∷ 51 ∷ 54 ∷ 52 ∷ 56 ∷ []) ∷
+    (45 ∷ 50 ∷ 49 ∷ 52 ∷ 55 ∷ 52 ∷ 56 ∷ 51 ∷ 54 ∷ 52 ∷ 56 ∷ []) ∷
+    (45 ∷ 50 ∷ 49 ∷ 52 ∷ 55 ∷ 52 ∷ 56 ∷ 51 ∷ 54 ∷ 52 ∷ 57 ∷ []) ∷
+    [])
+    ≡ some (pos 0) ∷ none ∷ none ∷ none ∷ none ∷ none ∷ none ∷ some (pos 2147483647) ∷ none ∷ some (negsuc 2147483647) ∷ none ∷ []
+unfolding numberIn candidate column numeral decimal digits
+columns-read = refl
+
+-- the lines of the document's integrator
+abbrev node₀ : List ℕ
+node₀ = 32 ∷ 32 ∷ 32 ∷ 48 ∷ 32 ∷ 32 ∷ 32 ∷ 32 ∷ 32 ∷ 32 ∷ 32 ∷ 32 ∷ 32 ∷ 32 ∷ 32 ∷ 51 ∷ 32 ∷ 32 ∷ 32 ∷ 32 ∷ 32 ∷ 32 ∷ 32 ∷ 32 ∷ 32 ∷ 32 ∷ 32 ∷ 49 ∷ 32 ∷ 32 ∷ 32 ∷ 32 ∷ 32 ∷ 32 ∷ 32 ∷ 32 ∷ 32 ∷ 32 ∷ 32 ∷ 48 ∷ 10 ∷ []
+
+abbrev node₁ : List ℕ
+node₁ = 32 ∷ 32 ∷ 32 ∷ 49 ∷ 32 ∷ 32 ∷ 32 ∷ 32 ∷ 32 ∷ 32 ∷ 32 ∷ 32 ∷ 32 ∷ 32 ∷ 32 ∷ 53 ∷ 32 ∷ 32 ∷ 32 ∷ 32 ∷ 32 ∷ 32 ∷ 32 ∷ 32 ∷ 32 ∷ 32 ∷ 32 ∷ 48 ∷ 32 ∷ 32 ∷ 32 ∷ 32 ∷ 32 ∷ 32 ∷ 32 ∷ 32 ∷ 32 ∷ 32 ∷ 32 ∷ 48 ∷ 10 ∷ []
+
+abbrev node₂ : List ℕ
+node₂ = 32 ∷ 32 ∷ 32 ∷ 50 ∷ 32 ∷ 32 ∷ 32 ∷ 32 ∷ 32 ∷ 32 ∷ 32 ∷ 32 ∷ 32 ∷ 32 ∷ 49 ∷ 49 ∷ 32 ∷ 32 ∷ 32 ∷ 32 ∷ 32 ∷ 32 ∷ 32 ∷ 32 ∷ 32 ∷ 32 ∷ 32 ∷ 48 ∷ 32 ∷ 32 ∷ 32 ∷ 32 ∷ 32 ∷ 32 ∷ 32 ∷ 32 ∷ 32 ∷ 32 ∷ 32 ∷ 49 ∷ 10 ∷ []
+
+integrator-read : reading (node₀ ++ node₁ ++ node₂) (7 ∷ 7 ∷ 7 ∷ 7 ∷ 7 ∷ 7 ∷ 7 ∷ 7 ∷ 7 ∷ 7 ∷ []) ≡ called (count 3) (3 ∷ 1 ∷ 0 ∷ 5 ∷ 0 ∷ 0 ∷ 11 ∷ 0 ∷ 1 ∷ 7 ∷ [])
+unfolding reading fileRefusal lines lineRefusal numberIn candidate column numeral decimal digits low
+integrator-read = refl
+
+integrator-written : writing (3 ∷ 1 ∷ 0 ∷ 5 ∷ 0 ∷ 0 ∷ 11 ∷ 0 ∷ 1 ∷ []) (node₂ ++ node₂ ++ node₂ ++ (46 ∷ [])) ≡ called (count 123) (node₀ ++ node₁ ++ node₂ ++ (46 ∷ []))
+unfolding writing countRefusal lineOf nodeLine column numeral decimal digits value
+integrator-written = refl
+
+-- its lines in another order, and a table that is too short
+wrong-order : reading (node₀ ++ node₂) (7 ∷ []) ≡ called (refusedAt 2 1) (7 ∷ [])
+unfolding reading fileRefusal lines lineRefusal numberIn candidate column numeral decimal digits low
+wrong-order = refl
+
+short-table : reading (node₀ ++ node₁) (7 ∷ []) ≡ called (refusedAll 12) (7 ∷ [])
+unfolding reading fileRefusal lines lineRefusal numberIn candidate column numeral decimal digits low
+short-table = refl

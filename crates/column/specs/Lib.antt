@@ -1,0 +1,6 @@
+pub mod Checks
+pub mod Number
+pub mod Line
+pub mod File
+pub mod Answers
+pub mod Promises

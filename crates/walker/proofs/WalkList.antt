@@ -1,0 +1,77 @@
+-- Any list of walks of an accepted table, on cells that a load has cleared: the samples and the cells of the meaning.
+use Prim.Native.Nat.{ℕ, _*_, _≤_}
+use mathlib.Core.Path.{_≡_, refl, ap, _∙_}
+use mathlib.Core.Bool.{Bool, true, false}
+use mathlib.Core.List.{List, map}
+use native.Mathlib.Omega.{arith}
+use lib.IntN.{ℤ}
+use lib.ListN.{length}
+use lib.Dec.{leb}
+use Rattle.word.specs.Choice.{_and_, pick}
+use Rattle.word.proofs.Lists.{is-most}
+use Rattle.refusal.specs.Answer.{Answer, count, refusedAll}
+use Rattle.refusal.specs.Answer.Answer.{counts, refused}
+use Rattle.cells.specs.Block.{Ran, unchanged, refusal, blockOk, answered, called}
+use Rattle.cells.specs.Load.{loaded}
+use Rattle.arity.specs.declared.CheckAnswer.{CheckAnswer}
+use Rattle.arity.specs.declared.CheckAnswer.the-variants.{Accepted}
+use Rattle.arity.specs.Tree.{ins, outs}
+use Rattle.arity.specs.Table.{nodes, circuit}
+use Rattle.arity.specs.Nodes.{cellsBefore}
+use Rattle.arity.specs.Check.{checked}
+use Rattle.arity.specs.Checked.{Checked}
+use Rattle.arity.specs.Promise.{Words}
+use Rattle.arity.proofs.Promise.{promise, same-answer}
+use Rattle.walker.specs.Walk.{walks, walked, walkedBy, walkedTable}
+use Rattle.walker.specs.Calls.{Of, OwnOrRefused}
+use Rattle.walker.specs.Law.{LawfulThroughout}
+use Rattle.walker.specs.Walks.{Walk, callOf, WalkOf, resultOf}
+use Rattle.walker.proofs.Law.{only-of}
+use Rattle.walker.proofs.Throughout.{throughout}
+
+-- a refused walk of any table changes nothing
+module _ (w : Walk) (cells : List ℕ) (x : ℕ) (p : ℤ) where
+  same : (y : ℕ) → refusedAll y ≡ refused x p → refusal y cells (w .outputs) ≡ unchanged (refused x p) cells (w .outputs)
+  same y g = ap (λ z. unchanged z cells (w .outputs)) g
+
+  circuit-nothing : walked (nodes (w .table)) (circuit (w .table)) (w .ticks) (w .inputs) (w .controls) cells (w .outputs) .answer ≡ refused x p
+      → walked (nodes (w .table)) (circuit (w .table)) (w .ticks) (w .inputs) (w .controls) cells (w .outputs) ≡ unchanged (refused x p) cells (w .outputs)
+  unfolding walked called answered
+  circuit-nothing =
+      let t = circuit (w .table) in
+      let k : ℕ = cellsBefore t (nodes (w .table)) in
+      go (leb k 16384) (blockOk (ins t) (w .ticks) (w .inputs) (w .controls)) (leb k (length cells) and leb (w .ticks * outs t) (length (w .outputs)))
+    where
+      result : Bool → Bool → Bool → Ran
+      result a b d =
+          pick a (pick b (pick d (walks (nodes (w .table)) (circuit (w .table)) (w .ticks) (w .inputs) (w .controls) cells (w .outputs)) (refusal 12 cells (w .outputs))) (refusal 14 cells (w .outputs))) (refusal 11 cells (w .outputs))
+
+      go : (a b d : Bool) → result a b d .answer ≡ refused x p → result a b d ≡ unchanged (refused x p) cells (w .outputs)
+      go true true true g = absurd (let z : _≡_ {A = ℕ} 0 1 = cc in omega arith)
+      go true true false g = same 12 g
+      go true false d g = same 14 g
+      go false b d g = same 11 g
+
+  pub refused-nothing : resultOf w cells .answer ≡ refused x p → resultOf w cells ≡ unchanged (refused x p) cells (w .outputs)
+  unfolding walkedTable
+  refused-nothing = go (checked (w .place) (w .table))
+    where
+      go : (a : Answer) → walkedBy a (w .table) (w .ticks) (w .inputs) (w .controls) cells (w .outputs) .answer ≡ refused x p
+          → walkedBy a (w .table) (w .ticks) (w .inputs) (w .controls) cells (w .outputs) ≡ unchanged (refused x p) cells (w .outputs)
+      go (counts ks) g = circuit-nothing g
+      go (refused y q) g = ap (λ z. unchanged z cells (w .outputs)) g
+
+-- an accepted table of at most 16,384 cells; cells that a load has cleared for it, whatever they held before; any list of its walks, and refused walks between
+module _ (table : List ℕ) (answer : CheckAnswer) (n m i d : ℕ) (k : Checked table answer) (e : answer ≡ Accepted n m i d) (words : Words table) (few : d ≤ 16384) where
+  own-walk : (w : Walk) → WalkOf table w → Of (nodes table) (circuit table) (callOf w)
+  unfolding Of walkedTable walked
+  own-walk w f cells =
+      rw (f, same-answer k e (w .place), is-most (cellsBefore (circuit table) (nodes table)) 16384 (omega (arith, promise k e words .celled)))
+
+  pub walks-lawful : (named : ℕ) (cells : List ℕ) → loaded named cells .answer ≡ count named → d ≤ named
+      → (ws : List Walk) → OwnOrRefused callOf (WalkOf table) (loaded named cells .cells) ws
+      → LawfulThroughout (nodes table) (circuit table) (loaded named cells .cells) (map callOf ws)
+  walks-lawful named cells f enough ws o =
+      let p = promise k e words in
+      throughout (nodes table) (circuit table) (p .wellFormed) (p .complete) named cells f (omega (arith, p .celled)) (map callOf ws)
+      (only-of (nodes table) (circuit table) callOf (WalkOf table) own-walk refused-nothing (loaded named cells .cells) ws o)
