@@ -1,6 +1,6 @@
 -- A tick, instruction after instruction: what is left to execute, over the registers written so far.
 use Prim.Native.Nat.{ℕ, zero, suc, _+_, _-_, _*_, _≤_, _<_}
-use mathlib.Core.Path.{_≡_, sym, refl, ap, ap₂, _∙_}
+use mathlib.Core.Path.{_≡_, sym, ap, ap₂, _∙_}
 use mathlib.Core.Bool.{true}
 use mathlib.Core.List.{List, [], _∷_, _++_, append-assoc, append-nil}
 use native.Mathlib.Nat.{zero-add, add-zero, suc-add}
@@ -10,27 +10,13 @@ use lib.Seq.{drop-drop, take-suc-set, take-at, length-take-le}
 use Rattle.word.specs.Choice.{_and_}
 use Rattle.word.specs.Tick.{zeros}
 use Rattle.word.proofs.Lists.{first-true, second-true}
-use Rattle.flat.specs.Flat.{Instruction, width, Machine, machine, Effect, effect, worked, execute}
+use Rattle.flat.specs.Flat.{Instruction, width, Machine, machine, effect, worked, execute}
 use Rattle.flat.specs.Code.{header, instructionAt, instructionsOf, inputCount, instructionCount}
 use Rattle.flat.specs.Check.{instructionOk, instructionsOk}
 use Rattle.flat.specs.Steps.{Header, Workable, Steppable, Advanced, Ready}
 use Rattle.flat.proofs.Decoded.{code-instructions, instructions-next, ok-step}
+use Rattle.flat.proofs.Effects.{execute-none, execute-first, execute-skipped}
 use Rattle.flat.proofs.Working.{works-below, skips-inside}
-
--- execution, one instruction on
-execute-none : (controls : List ℕ) (m : Machine) → execute controls [] m ≡ m
-unfolding execute
-execute-none controls m = refl
-
-execute-first : (controls : List ℕ) (x : Instruction) (xs : List Instruction) (ρ cs cs′ : List ℕ) (v s : ℕ) → worked controls x ρ cs ≡ effect v s cs′
-    → execute controls (x ∷ xs) (machine ρ 0 cs) ≡ execute controls xs (machine (ρ ++ (v ∷ [])) s cs′)
-unfolding execute
-execute-first controls x xs ρ cs cs′ v s e = ap (λ (f : Effect). execute controls xs (machine (ρ ++ (f .value ∷ [])) (f .skip) (f .cells))) e
-
-execute-skipped : (controls : List ℕ) (x : Instruction) (xs : List Instruction) (ρ cs : List ℕ) (s : ℕ)
-    → execute controls (x ∷ xs) (machine ρ (suc s) cs) ≡ execute controls xs (machine (ρ ++ (0 ∷ [])) s cs)
-unfolding execute
-execute-skipped controls x xs ρ cs s = refl
 
 -- skipped instructions leave zeros
 skipped : (controls : List ℕ) (s k : ℕ) (ys ρ cs : List ℕ)

@@ -1,7 +1,10 @@
 pub mod Encoding
 pub mod Decoded
+pub mod Passing
+pub mod Effects
 pub mod Working
 pub mod Executing
 pub mod Ports
 pub mod Playing
 pub mod Runs
+pub mod Refused

@@ -1,5 +1,5 @@
 -- The complete result of a call, refusal by refusal.
-use Prim.Native.Nat.{ℕ, _+_, _*_, _≤_, _<_}
+use Prim.Native.Nat.{ℕ, _*_, _≤_, _<_}
 use mathlib.Core.Path.{_≡_, refl, sym, ap, _∙_}
 use mathlib.Core.Bool.{true, false}
 use mathlib.Core.List.{List, _++_}
@@ -13,7 +13,7 @@ use Rattle.word.specs.Choice.{_and_, pick}
 use Rattle.word.specs.Tick.{Stepped, stepped}
 use Rattle.word.proofs.Lists.{first-true, second-true}
 use Rattle.refusal.specs.Answer.{count, refusedAll}
-use Rattle.cells.specs.Block.{Ran, refusal, ticksOf, played, blockOk}
+use Rattle.cells.specs.Block.{refusal, ticksOf, played, blockOk}
 use Rattle.flat.specs.Code.{Code, resultsAt, decode, codeTick, inputCount, outputCount, instructionCount, cellCount}
 use Rattle.flat.specs.Check.{codeOk}
 use Rattle.flat.specs.Run.{ran, ranAs, checks, runs}

@@ -1,6 +1,10 @@
 // The check of a code, refusal 13.
+use crate::format::CELLS;
 use crate::format::HEADER;
+use crate::format::INPUTS;
+use crate::format::INSTRUCTIONS;
 use crate::format::Instruction;
+use crate::format::OUTPUTS;
 use crate::format::WIDTH;
 use crate::format::instruction_at;
 use word::index;
@@ -8,7 +12,7 @@ use word::operands;
 ghost use mathlib.Core.Path.{_≡_};
 ghost use Prim.Native.Nat.{_+_, _<_, _≤_};
 ghost use lib.ListN.{length, drop};
-ghost use lib.Dec.{eqb, leb, ltb};
+ghost use lib.Dec.{eqb, ltb};
 ghost use Rattle.word.specs.Choice.{_and_, pick};
 ghost use Rattle.word.specs.Operation.{operands as operandsOf};
 ghost use Rattle.flat.specs.Code.{header, resultsAt, instructionsOf, inputCount, instructionCount, decode};
@@ -60,11 +64,12 @@ fn header_ok(code: &[u32]) -> bool
     if code.len() < HEADER {
         return false;
     }
-    code[0] <= 32
-        && (code[1] <= 32
-            && (code[2] <= 2048
-                && (code[3] <= 16384
-                    && code.len() == HEADER + WIDTH * index(code[2]) + index(code[1]))))
+    code[INPUTS] <= 32
+        && (code[OUTPUTS] <= 32
+            && (code[INSTRUCTIONS] <= 2048
+                && (code[CELLS] <= 16384
+                    && code.len()
+                        == HEADER + WIDTH * index(code[INSTRUCTIONS]) + index(code[OUTPUTS]))))
 }
 
 // The first count instructions, of which the first writes register `first`.
@@ -105,9 +110,9 @@ fn body_ok(code: &[u32]) -> bool
     requires { ⌜ Header (now code) ⌝ }
     ensures { λ r. ⌜ r ≡ bodyOk (inputCount (now (code .entry)) + instructionCount (now (code .entry))) (decode (now (code .entry))) ⌝ }
 {
-    let n = code[0];
-    let c = code[2];
-    instructions_ok(code, c, code[3], n) && results_ok(code, HEADER + WIDTH * index(c), n + c)
+    let n = code[INPUTS];
+    let c = code[INSTRUCTIONS];
+    instructions_ok(code, c, code[CELLS], n) && results_ok(code, HEADER + WIDTH * index(c), n + c)
 }
 
 // Does row 13 let the code pass?

@@ -9,8 +9,19 @@ ghost use Rattle.flat.specs.Steps.{listed};
 // The numbers of an instruction.
 pub const WIDTH: usize = 5;
 
-// The numbers before the first instruction.
+// The header: inputs, outputs, instructions and cells, and how many numbers these are.
+pub const INPUTS: usize = 0;
+
+pub const OUTPUTS: usize = 1;
+
+pub const INSTRUCTIONS: usize = 2;
+
+pub const CELLS: usize = 3;
+
 pub const HEADER: usize = 4;
+
+// The registers of the largest code: 32 inputs and 2,048 instructions.
+pub const REGISTERS: usize = 2080;
 
 // One instruction: its code and its operands.
 pub struct Instruction {

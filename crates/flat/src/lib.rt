@@ -5,6 +5,10 @@ mod machine;
 mod tick;
 
 use check::code_ok;
+use format::CELLS;
+use format::INPUTS;
+use format::OUTPUTS;
+use format::REGISTERS;
 use refusal::Refusal;
 use tick::run_tick;
 use word::index;
@@ -37,25 +41,25 @@ fn play(
     ensures { λ _. ⌜ played (codeTick (decode (now (code .entry)))) (ticksOf (inputCount (now (code .entry))) (now (controls .entry)) ticks (now (inputs .entry))) (now (cells .entry))
         ≡ stepped (now (outputs .exit)) (now (cells .exit)) ⌝ }
 {
-    let n = index(code[0]);
-    let m = index(code[1]);
-    let mut registers = [0u32; 2080];
+    let n = index(code[INPUTS]);
+    let m = index(code[OUTPUTS]);
+    let mut registers = [0u32; REGISTERS];
     let mut left: usize = ticks;
-    let mut a: usize = 0;
-    let mut b: usize = 0;
+    let mut read: usize = 0;
+    let mut written: usize = 0;
     while 0 < left {
-        let a2 = a + n;
-        let b2 = b + m;
+        let read_to = read + n;
+        let written_to = written + m;
         run_tick(
             code,
             controls,
-            &inputs[a..a2],
+            &inputs[read..read_to],
             &mut registers,
             cells,
-            &mut outputs[b..b2],
+            &mut outputs[written..written_to],
         );
-        a = a2;
-        b = b2;
+        read = read_to;
+        written = written_to;
         left -= 1;
     }
 }
@@ -79,15 +83,15 @@ fn run_checked(
     ensures { λ r. ⌜ ranAs (answerOf r) (now (cells .exit)) (now (outputs .exit))
         ≡ checks (decode (now (code .entry))) ticks (now (inputs .entry)) (now (controls .entry)) (now (cells .entry)) (now (outputs .entry)) ⌝ }
 {
-    if !block_ok(code[0], ticks, inputs, controls) {
+    if !block_ok(code[INPUTS], ticks, inputs, controls) {
         return RunAnswer::Refused(Refusal::WrongBlock);
     }
-    let count = index(code[3]);
+    let count = index(code[CELLS]);
     if cells.len() < count {
         return RunAnswer::Refused(Refusal::ShortBuffer);
     }
     let t = index(ticks);
-    let total = t * index(code[1]);
+    let total = t * index(code[OUTPUTS]);
     if outputs.len() < total {
         return RunAnswer::Refused(Refusal::ShortBuffer);
     }

@@ -1,5 +1,7 @@
 // The machine: what instructions do to registers and cells in one tick.
 use crate::format::HEADER;
+use crate::format::INPUTS;
+use crate::format::INSTRUCTIONS;
 use crate::format::Instruction;
 use crate::format::WIDTH;
 use crate::format::instruction_at;
@@ -11,6 +13,8 @@ use word::operate;
 ghost use mathlib.Core.Path.{_≡_};
 ghost use Prim.Native.Nat.{_+_};
 ghost use lib.ListN.{take, drop};
+ghost use Rattle.word.specs.Choice.{pick};
+ghost use Rattle.word.specs.Operation.{demand as demandOf};
 ghost use Rattle.flat.specs.Flat.{worked, effect, machine, execute as executeOf};
 ghost use Rattle.flat.specs.Code.{header, instructionsOf, inputCount, instructionCount};
 ghost use Rattle.flat.specs.Steps.{listed, Workable, Steppable, Advanced, Ready};
@@ -19,6 +23,26 @@ ghost use Rattle.flat.specs.Steps.{listed, Workable, Steppable, Advanced
 struct Effect {
     value: u32,
     skip: usize,
+}
+
+// A value, and no skip.
+fn gives(value: u32) -> Effect
+    ensures { λ r. ⌜ (r .value ≡ value) × (r .skip ≡ 0) ⌝ }
+{
+    Effect { value, skip: 0 }
+}
+
+// The value 0, and a skip of so many unless the clock is a demand.
+fn skips(clock: u32, count: usize) -> Effect
+    ensures { λ r. ⌜ (r .value ≡ 0) × (r .skip ≡ pick (demandOf clock) 0 count) ⌝ }
+{
+    if demand(clock) {
+        return gives(0);
+    }
+    Effect {
+        value: 0,
+        skip: count,
+    }
 }
 
 // One instruction that is not skipped.
@@ -30,48 +54,16 @@ fn work(x: Instruction, controls: &[u32], registers: &[u32], cells: &mut [u32]) 
     let a = index(x.a);
     let b = index(x.b);
     match code {
-        1 => {
-            return Effect {
-                value: x.a,
-                skip: 0,
-            };
-        }
-        2 => {
-            return Effect {
-                value: controls[a],
-                skip: 0,
-            };
-        }
-        3 => {
-            let c = index(x.c);
-            return Effect {
-                value: operate(x.a, registers[b], registers[c]),
-                skip: 0,
-            };
-        }
-        4 => {
-            let delayed = delay_at(cells, index(x.c), index(x.d), registers[a], registers[b]);
-            return Effect {
-                value: delayed.value,
-                skip: 0,
-            };
-        }
-        5 => {
-            return Effect {
-                value: cells[a],
-                skip: 0,
-            };
-        }
+        1 => gives(x.a),
+        2 => gives(controls[a]),
+        3 => gives(operate(x.a, registers[b], registers[index(x.c)])),
+        4 => gives(delay_at(cells, index(x.c), index(x.d), registers[a], registers[b]).value),
+        5 => gives(cells[a]),
         6 => {
             cells[a] = registers[b];
-            return Effect { value: 0, skip: 0 };
+            gives(0)
         }
-        _ => {
-            if demand(registers[a]) {
-                return Effect { value: 0, skip: 0 };
-            }
-            return Effect { value: 0, skip: b };
-        }
+        _ => skips(registers[a], b),
     }
 }
 
@@ -101,8 +93,8 @@ pub fn execute(code: &[u32], controls: &[u32], registers: &mut [u32], cells: &mu
     ensures { λ _. ⌜ executeOf (now (controls .entry)) (instructionsOf (instructionCount (now (code .entry))) (drop header (now (code .entry)))) (machine (take (inputCount (now (code .entry))) (now (registers .entry))) 0 (now (cells .entry)))
         ≡ machine (take (inputCount (now (code .entry)) + instructionCount (now (code .entry))) (now (registers .exit))) 0 (now (cells .exit)) ⌝ }
 {
-    let first = index(code[0]);
-    let end = first + index(code[2]);
+    let first = index(code[INPUTS]);
+    let end = first + index(code[INSTRUCTIONS]);
     let mut p: usize = HEADER;
     let mut own: usize = first;
     while own < end {

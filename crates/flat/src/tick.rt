@@ -1,5 +1,6 @@
 // One tick of a code that passed the check: the inputs in, the instructions, the outputs out.
 use crate::format::HEADER;
+use crate::format::INSTRUCTIONS;
 use crate::format::WIDTH;
 use crate::machine::execute;
 use word::index;
@@ -53,5 +54,10 @@ pub fn run_tick(
 {
     put(inputs, registers);
     execute(code, controls, registers, cells);
-    gather(code, HEADER + WIDTH * index(code[2]), registers, outputs);
+    gather(
+        code,
+        HEADER + WIDTH * index(code[INSTRUCTIONS]),
+        registers,
+        outputs,
+    );
 }

@@ -10,12 +10,12 @@ use Rattle.flat.proofs.play.Statement.{statement}
 use Rattle.flat.proofs.play.Tie as tie
 
 abbrev Inv-loop : tie.InvT-loop
-Inv-loop code ticks inputs controls cells₀ outputs₀ n m registers₀ left₀ a₀ b₀ cells outputs registers left a b =
-    Playing (codeTick (decode code)) inputs controls (played (codeTick (decode code)) (ticksOf (inputCount code) controls ticks inputs) cells₀) n m left a b outputs cells
+Inv-loop code ticks inputs controls cells₀ outputs₀ n m registers₀ left₀ read₀ written₀ cells outputs registers left read written =
+    Playing (codeTick (decode code)) inputs controls (played (codeTick (decode code)) (ticksOf (inputCount code) controls ticks inputs) cells₀) n m left read written outputs cells
     × ((length registers ≡ 2080) × ((length outputs ≡ length outputs₀) × (length cells ≡ length cells₀)))
 
 abbrev μ-loop : tie.MeasureT-loop
-μ-loop code ticks inputs controls cells₀ outputs₀ n m registers₀ left₀ a₀ b₀ cells outputs registers left a b = left
+μ-loop code ticks inputs controls cells₀ outputs₀ n m registers₀ left₀ read₀ written₀ cells outputs registers left read written = left
 
 shared-slice-read-index : tie.Need-shared-slice-read-index Inv-loop μ-loop
 shared-slice-read-index c = search needs
@@ -32,11 +32,11 @@ index-requires-2 c κs = search needs
 loop-holds : tie.Need-loop-holds Inv-loop μ-loop
 loop-holds c = (begins _ _ _ _ _ _ _ _ _ _ (c .before .before .index .ensures) (c .index2 .ensures) (c .before .before .before .before .before .before .before .before .before .pre .ins) (c .before .before .before .before .before .before .before .before .before .pre .outs), (search needs, (refl, refl)))
 
-add-a2 : tie.Need-add-a2 Inv-loop μ-loop
-add-a2 c = omega (arith, reads-fit (c .before .loop .inv .0) (c .loop-test .taken))
+add-read-to : tie.Need-add-read-to Inv-loop μ-loop
+add-read-to c = omega (arith, reads-fit (c .before .loop .inv .0) (c .loop-test .taken))
 
-add-b2 : tie.Need-add-b2 Inv-loop μ-loop
-add-b2 c = omega (arith, writes-fit (c .before .loop .inv .0) (c .loop-test .taken))
+add-written-to : tie.Need-add-written-to Inv-loop μ-loop
+add-written-to c = omega (arith, writes-fit (c .before .loop .inv .0) (c .loop-test .taken))
 
 mul-run-tick : tie.Need-mul-run-tick Inv-loop μ-loop
 mul-run-tick c = search needs
@@ -69,8 +69,8 @@ run-tick-requires : tie.Need-run-tick-requires Inv-loop μ-loop
 run-tick-requires c κs = (
   record { checked = c .before .before .before .before .before .before .before .before .before .before .before .before .before .before .before .pre .checked; room = omega (arith, c .before .before .before .before .before .loop .inv .1 .0); all = c .before .before .before .before .before .loop .inv .1 .1 .1 ∙ c .before .before .before .before .before .before .before .before .before .before .before .before .before .before .before .pre .all; sixteen = c .before .before .before .before .before .before .before .before .before .before .before .before .before .before .before .pre .sixteen },
   (
-    part-long (c .before .before .before .before .before .loop .a) (c .before .before .before .before .before .before .before .before .index .result) (c .before .before .before .before .before .before .before .before .before .before .before .before .before .before .before .args .inputs .now) (reads-fit (c .before .before .before .before .before .loop .inv .0) (c .before .before .before .before .loop-test .taken)) ∙ c .before .before .before .before .before .before .before .before .index .ensures,
-    part-long (c .before .before .before .before .before .loop .b) (c .before .before .before .before .before .before .index2 .result) (c .before .before .before .before .before .loop .outputs) (writes-fit (c .before .before .before .before .before .loop .inv .0) (c .before .before .before .before .loop-test .taken)) ∙ c .before .before .before .before .before .before .index2 .ensures,
+    part-long (c .before .before .before .before .before .loop .read) (c .before .before .before .before .before .before .before .before .index .result) (c .before .before .before .before .before .before .before .before .before .before .before .before .before .before .before .args .inputs .now) (reads-fit (c .before .before .before .before .before .loop .inv .0) (c .before .before .before .before .loop-test .taken)) ∙ c .before .before .before .before .before .before .before .before .index .ensures,
+    part-long (c .before .before .before .before .before .loop .written) (c .before .before .before .before .before .before .index2 .result) (c .before .before .before .before .before .loop .outputs) (writes-fit (c .before .before .before .before .before .loop .inv .0) (c .before .before .before .before .loop-test .taken)) ∙ c .before .before .before .before .before .before .index2 .ensures,
   ),
 )
 
@@ -83,9 +83,9 @@ loop-less c = search needs
 loop-again : tie.Need-loop-again Inv-loop μ-loop
 loop-again c =
     let f = writes-fit (c .before .before .before .before .before .before .before .before .before .before .before .loop .inv .0) (c .before .before .before .before .before .before .before .before .before .before .loop-test .taken) in
-    let lz = c .before .before .before .before .before .run-tick .kept .1 .1 .1 .1 .1 .0 ∙ part-long (c .before .before .before .before .before .before .before .before .before .before .before .loop .b) (c .before .before .before .before .before .before .before .before .before .before .before .before .index2 .result) (c .before .before .before .before .before .before .before .before .before .before .before .loop .outputs) f in
-    let ly = part-back (c .before .before .before .before .before .before .before .before .before .before .before .loop .b) (c .before .before .before .before .before .before .before .before .before .before .before .before .index2 .result) (c .before .before .before .before .before .before .before .before .before .before .before .loop .outputs) (c .before .before .before .before .before .run-tick .last .1 .1 .1 .1 .1 .0) f lz in (
-      plays-on (c .before .before .before .before .before .before .before .before .before .before .before .loop .inv .0) (c .before .before .before .before .before .before .before .before .before .before .loop-test .taken) _ (c .before .before .before .before .before .run-tick .last .1 .1 .1 .1 .1 .0) _ _ _ (part-is (c .before .before .before .before .before .before .before .before .before .before .before .loop .a) (c .before .before .before .before .before .before .before .before .before .before .before .before .before .before .index .result) (c .before .before .before .before .before .before .before .before .before .before .before .before .before .before .before .before .before .before .before .before .before .args .inputs .now)) (c .before .before .before .before .before .run-tick .ensures) lz refl ly,
+    let lz = c .before .before .before .before .before .run-tick .kept .1 .1 .1 .1 .1 .0 ∙ part-long (c .before .before .before .before .before .before .before .before .before .before .before .loop .written) (c .before .before .before .before .before .before .before .before .before .before .before .before .index2 .result) (c .before .before .before .before .before .before .before .before .before .before .before .loop .outputs) f in
+    let ly = part-back (c .before .before .before .before .before .before .before .before .before .before .before .loop .written) (c .before .before .before .before .before .before .before .before .before .before .before .before .index2 .result) (c .before .before .before .before .before .before .before .before .before .before .before .loop .outputs) (c .before .before .before .before .before .run-tick .last .1 .1 .1 .1 .1 .0) f lz in (
+      plays-on (c .before .before .before .before .before .before .before .before .before .before .before .loop .inv .0) (c .before .before .before .before .before .before .before .before .before .before .loop-test .taken) _ (c .before .before .before .before .before .run-tick .last .1 .1 .1 .1 .1 .0) _ _ _ (part-is (c .before .before .before .before .before .before .before .before .before .before .before .loop .read) (c .before .before .before .before .before .before .before .before .before .before .before .before .before .before .index .result) (c .before .before .before .before .before .before .before .before .before .before .before .before .before .before .before .before .before .before .before .before .before .args .inputs .now)) (c .before .before .before .before .before .run-tick .ensures) lz refl ly,
       (c .before .before .before .before .before .run-tick .kept .1 .1 .1 .0 ∙ c .before .before .before .before .before .before .before .before .before .before .before .loop .inv .1 .0, (ly ∙ c .before .before .before .before .before .before .before .before .before .before .before .loop .inv .1 .1 .0, c .before .before .before .before .before .run-tick .kept .1 .1 .1 .1 .0 ∙ c .before .before .before .before .before .before .before .before .before .before .before .loop .inv .1 .1 .1)),
     )
 
@@ -109,8 +109,8 @@ play-spec =
     shared-slice-read-index-2
     index-requires-2
     loop-holds
-    add-a2
-    add-b2
+    add-read-to
+    add-written-to
     mul-run-tick
     sub-run-tick
     part-run-tick-start
