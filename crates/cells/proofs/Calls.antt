@@ -1,9 +1,11 @@
 -- The complete result of a call, refusal by refusal.
 use Prim.Native.Nat.{ℕ, _*_, _≤_, _<_}
 use mathlib.Core.Path.{_≡_, refl, sym, ap, _∙_}
-use mathlib.Core.Bool.{true, false}
+use mathlib.Core.Bool.{Bool, true, false}
 use mathlib.Core.List.{List, _++_}
 use native.Mathlib.Nat.{mul-le-mul}
+use native.Mathlib.Omega.{arith}
+use lib.IntN.{ℤ}
 use lib.Dec.{eqb, leb}
 use lib.ListN.{length, take, drop}
 use borrow.Author.Tests.{leb-true, eqb-true, le-leb, lt-leb}
@@ -11,7 +13,8 @@ use Rattle.word.specs.Choice.{pick, _and_}
 use Rattle.word.specs.Tick.{Tick, Stepped, stepped}
 use Rattle.word.proofs.Lists.{first-true, second-true}
 use Rattle.refusal.specs.Answer.{count, refusedAll}
-use Rattle.cells.specs.Block.{ranAs, refusal, ticksOf, played, blockOk, answered, called}
+use Rattle.refusal.specs.Answer.Answer.{refused}
+use Rattle.cells.specs.Block.{Ran, ranAs, unchanged, refusal, ticksOf, played, blockOk, answered, called}
 
 -- samples of at most 4,096 ticks
 pub few : (t n k : ℕ) → t ≤ 4096 → n ≤ k → t * n ≤ 4096 * k
@@ -58,3 +61,17 @@ module _ (g : Tick → List ℕ → Stepped) (n m k ticks : ℕ) (inputs control
     pub accepted : k ≤ length cells → ticks * m ≤ length outputs → (ys cs : List ℕ) → played g (ticksOf n controls ticks inputs) (take k cells) ≡ stepped ys cs
         → ranAs (count (ticks * m)) (cs ++ drop k cells) (ys ++ drop (ticks * m) outputs) ≡ called g n m k ticks inputs controls cells outputs
     accepted c d ys cs e = answered-all ys cs e ∙ sym (called-opened ∙ rw (block, le-leb k (length cells) c, le-leb (ticks * m) (length outputs) d))
+
+  -- a refused call changes nothing
+  pub refused-nothing : (x : ℕ) (p : ℤ) → called g n m k ticks inputs controls cells outputs .answer ≡ refused x p
+      → called g n m k ticks inputs controls cells outputs ≡ unchanged (refused x p) cells outputs
+  unfolding called answered
+  refused-nothing x p = go (blockOk n ticks inputs controls) (leb k (length cells) and leb (ticks * m) (length outputs))
+    where
+      result : Bool → Bool → Ran
+      result a b = pick a (pick b (answered g n m k ticks inputs controls cells outputs) (refusal 12 cells outputs)) (refusal 14 cells outputs)
+
+      go : (a b : Bool) → result a b .answer ≡ refused x p → result a b ≡ unchanged (refused x p) cells outputs
+      go true true e = absurd (let z : _≡_ {A = ℕ} 0 1 = cc in omega arith)
+      go true false e = ap (λ a. unchanged a cells outputs) e
+      go false b e = ap (λ a. unchanged a cells outputs) e

@@ -10,7 +10,7 @@ use lib.Dec.{leb}
 use Rattle.word.specs.Choice.{_and_, pick}
 use Rattle.refusal.specs.Answer.{count}
 use Rattle.refusal.specs.Answer.Answer.{refused}
-use Rattle.cells.specs.Block.{Ran, refusal, blockOk, answered, called}
+use Rattle.cells.specs.Block.{Ran, unchanged, refusal, blockOk, answered, called}
 use Rattle.cells.specs.Load.{loaded}
 use Rattle.arity.specs.declared.CheckAnswer.{CheckAnswer}
 use Rattle.arity.specs.declared.CheckAnswer.the-variants.{Accepted}
@@ -25,9 +25,13 @@ use Rattle.walker.specs.Calls.{Of, OwnOrRefused}
 use Rattle.walker.specs.Law.{LawfulThroughout}
 use Rattle.walker.proofs.Law.{only-of}
 use Rattle.walker.proofs.Throughout.{throughout}
+use Rattle.flat.proofs.Refused.{refused-nothing}
 use Rattle.translator.specs.Translated.{translated}
 use Rattle.engine.specs.Runs.{Run, resultOf, callOf, RunOf}
-use Rattle.engine.proofs.Alike.{run-is-walk, refused-nothing}
+use Rattle.engine.proofs.Alike.{run-is-walk}
+
+run-nothing : (r : Run) (cells : List ℕ) (x : ℕ) (p : ℤ) → resultOf r cells .answer ≡ refused x p → resultOf r cells ≡ unchanged (refused x p) cells (r .outputs)
+run-nothing r cells = refused-nothing (r .code) (r .ticks) (r .inputs) (r .controls) cells (r .outputs)
 
 -- an accepted table whose translation needs at most 2,048 instructions and 16,384 cells
 module _ (table : List ℕ) (answer : CheckAnswer) (n m i d : ℕ) (k : Checked table answer) (e : answer ≡ Accepted n m i d) (words : Words table) (li : i ≤ 2048) (ld : d ≤ 16384) where
@@ -44,7 +48,7 @@ module _ (table : List ℕ) (answer : CheckAnswer) (n m i d : ℕ) (k : Checked 
   demand-3 named cells f enough runs o =
       let p = promise k e words in
       throughout (nodes table) (circuit table) (p .wellFormed) (p .complete) named cells f (omega (arith, p .celled)) (map callOf runs)
-      (only-of (nodes table) (circuit table) callOf (RunOf (translated table)) own-run refused-nothing (loaded named cells .cells) runs o)
+      (only-of (nodes table) (circuit table) callOf (RunOf (translated table)) own-run run-nothing (loaded named cells .cells) runs o)
 
   -- a run of the translated code is never refused as a code
   pub no-13 : (r : Run) → RunOf (translated table) r → (cells : List ℕ) (p : ℤ) → resultOf r cells .answer ≡ refused 13 p → ⊥

@@ -5,6 +5,5 @@ pub mod Effects
 pub mod Working
 pub mod Executing
 pub mod Ports
-pub mod Playing
 pub mod Runs
 pub mod Refused

@@ -4,6 +4,7 @@ mod format;
 mod machine;
 mod tick;
 
+use cells::block_ok;
 use check::code_ok;
 use format::CELLS;
 use format::INPUTS;
@@ -13,20 +14,11 @@ use refusal::Refusal;
 use tick::run_tick;
 use word::index;
 ghost use mathlib.Core.Path.{_≡_};
-ghost use Prim.Native.Nat.{_≤_};
 ghost use Rattle.word.specs.Tick.{stepped};
-ghost use Rattle.cells.specs.Block.{ticksOf, played, blockOk};
+ghost use Rattle.cells.specs.Block.{ranAs, ticksOf, played};
 ghost use Rattle.flat.specs.Code.{inputCount, decode, codeTick};
-ghost use Rattle.flat.specs.Run.{answerOf, ranAs, checks, ran};
+ghost use Rattle.flat.specs.Run.{answerOf, checks, ran};
 ghost use Rattle.flat.specs.Steps.{Checked, Playable};
-
-// Does row 14 let a call pass that is for n inputs a tick?
-fn block_ok(n: u32, ticks: u32, inputs: &[u32], controls: &[u32]) -> bool
-    requires { ⌜ n ≤ 32 ⌝ }
-    ensures { λ r. ⌜ r ≡ blockOk n ticks (now (inputs .entry)) (now (controls .entry)) ⌝ }
-{
-    ticks <= 4096 && (inputs.len() == index(ticks) * index(n) && controls.len() == 16)
-}
 
 // The ticks of a call that is not refused, one after another, on the cells and the outputs that it needs and no more.
 fn play(

@@ -1,28 +1,29 @@
 -- Any list of walks of an accepted table, on cells that a load has cleared: the samples and the cells of the meaning.
-use Prim.Native.Nat.{ℕ, _*_, _≤_}
-use mathlib.Core.Path.{_≡_, refl, ap, _∙_}
+use Prim.Native.Nat.{ℕ, _≤_}
+use mathlib.Core.Path.{_≡_, ap}
 use mathlib.Core.Bool.{Bool, true, false}
 use mathlib.Core.List.{List, map}
 use native.Mathlib.Omega.{arith}
 use lib.IntN.{ℤ}
-use lib.ListN.{length}
 use lib.Dec.{leb}
-use Rattle.word.specs.Choice.{_and_, pick}
+use Rattle.word.specs.Choice.{pick}
 use Rattle.word.proofs.Lists.{is-most}
-use Rattle.refusal.specs.Answer.{Answer, count, refusedAll}
+use Rattle.refusal.specs.Answer.{Answer, count}
 use Rattle.refusal.specs.Answer.Answer.{counts, refused}
-use Rattle.cells.specs.Block.{Ran, unchanged, refusal, blockOk, answered, called}
+use Rattle.cells.specs.Block.{Ran, unchanged, refusal, called}
+use Rattle.cells.proofs.Calls as calls
 use Rattle.cells.specs.Load.{loaded}
 use Rattle.arity.specs.declared.CheckAnswer.{CheckAnswer}
 use Rattle.arity.specs.declared.CheckAnswer.the-variants.{Accepted}
-use Rattle.arity.specs.Tree.{ins, outs}
+use Rattle.arity.specs.Tree.{Tree, ins, outs}
 use Rattle.arity.specs.Table.{nodes, circuit}
 use Rattle.arity.specs.Nodes.{cellsBefore}
 use Rattle.arity.specs.Check.{checked}
 use Rattle.arity.specs.Checked.{Checked}
 use Rattle.arity.specs.Promise.{Words}
 use Rattle.arity.proofs.Promise.{promise, same-answer}
-use Rattle.walker.specs.Walk.{walks, walked, walkedBy, walkedTable}
+use Rattle.walker.specs.Step.{step}
+use Rattle.walker.specs.Walk.{walked, walkedBy, walkedTable}
 use Rattle.walker.specs.Calls.{Of, OwnOrRefused}
 use Rattle.walker.specs.Law.{LawfulThroughout}
 use Rattle.walker.specs.Walks.{Walk, callOf, WalkOf, resultOf}
@@ -31,26 +32,23 @@ use Rattle.walker.proofs.Throughout.{throughout}
 
 -- a refused walk of any table changes nothing
 module _ (w : Walk) (cells : List ℕ) (x : ℕ) (p : ℤ) where
-  same : (y : ℕ) → refusedAll y ≡ refused x p → refusal y cells (w .outputs) ≡ unchanged (refused x p) cells (w .outputs)
-  same y g = ap (λ z. unchanged z cells (w .outputs)) g
+  abbrev n : ℕ
+  n = nodes (w .table)
 
-  circuit-nothing : walked (nodes (w .table)) (circuit (w .table)) (w .ticks) (w .inputs) (w .controls) cells (w .outputs) .answer ≡ refused x p
-      → walked (nodes (w .table)) (circuit (w .table)) (w .ticks) (w .inputs) (w .controls) cells (w .outputs) ≡ unchanged (refused x p) cells (w .outputs)
-  unfolding walked called answered
-  circuit-nothing =
-      let t = circuit (w .table) in
-      let k : ℕ = cellsBefore t (nodes (w .table)) in
-      go (leb k 16384) (blockOk (ins t) (w .ticks) (w .inputs) (w .controls)) (leb k (length cells) and leb (w .ticks * outs t) (length (w .outputs)))
+  abbrev t : Tree
+  t = circuit (w .table)
+
+  circuit-nothing : walked n t (w .ticks) (w .inputs) (w .controls) cells (w .outputs) .answer ≡ refused x p
+      → walked n t (w .ticks) (w .inputs) (w .controls) cells (w .outputs) ≡ unchanged (refused x p) cells (w .outputs)
+  unfolding walked
+  circuit-nothing = go (leb (cellsBefore t n) 16384)
     where
-      result : Bool → Bool → Bool → Ran
-      result a b d =
-          pick a (pick b (pick d (walks (nodes (w .table)) (circuit (w .table)) (w .ticks) (w .inputs) (w .controls) cells (w .outputs)) (refusal 12 cells (w .outputs))) (refusal 14 cells (w .outputs))) (refusal 11 cells (w .outputs))
+      result : Bool → Ran
+      result a = pick a (called (step (cellsBefore t) t) (ins t) (outs t) (cellsBefore t n) (w .ticks) (w .inputs) (w .controls) cells (w .outputs)) (refusal 11 cells (w .outputs))
 
-      go : (a b d : Bool) → result a b d .answer ≡ refused x p → result a b d ≡ unchanged (refused x p) cells (w .outputs)
-      go true true true g = absurd (let z : _≡_ {A = ℕ} 0 1 = cc in omega arith)
-      go true true false g = same 12 g
-      go true false d g = same 14 g
-      go false b d g = same 11 g
+      go : (a : Bool) → result a .answer ≡ refused x p → result a ≡ unchanged (refused x p) cells (w .outputs)
+      go true g = calls.refused-nothing (step (cellsBefore t) t) (ins t) (outs t) (cellsBefore t n) (w .ticks) (w .inputs) (w .controls) cells (w .outputs) x p g
+      go false g = ap (λ z. unchanged z cells (w .outputs)) g
 
   pub refused-nothing : resultOf w cells .answer ≡ refused x p → resultOf w cells ≡ unchanged (refused x p) cells (w .outputs)
   unfolding walkedTable

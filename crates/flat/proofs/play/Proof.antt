@@ -4,7 +4,7 @@ use native.Mathlib.Omega.{arith}
 use lib.ListN.{length}
 use Rattle.cells.specs.Block.{ticksOf, played}
 use Rattle.flat.specs.Code.{inputCount, decode, codeTick}
-use Rattle.flat.proofs.Playing.{Playing, begins, reads-fit, writes-fit, plays-on, ends, part-is, part-long, part-back}
+use Rattle.cells.proofs.Playing.{Playing, begins, reads-fit, writes-fit, plays-on, ends, part-is, part-long, part-back}
 use borrow.Author.Needs.{needs}
 use Rattle.flat.proofs.play.Statement.{statement}
 use Rattle.flat.proofs.play.Tie as tie
