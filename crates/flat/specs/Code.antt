@@ -12,7 +12,7 @@ pub record Code : Type 0 where
   pub instructions : List Instruction
   pub results : List ℕ
 
--- the numbers of instructions, one after another
+-- "Then c instructions of five numbers": their numbers, one after another
 abbrev pub numbers : List Instruction → List ℕ
 numbers [] = []
 numbers (x ∷ xs) = x .code ∷ x .a ∷ x .b ∷ x .c ∷ x .d ∷ numbers xs

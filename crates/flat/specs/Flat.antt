@@ -66,10 +66,11 @@ execute1 controls x m =
     let e = acted controls x (m .registers) (m .skip) (m .cells) in
     machine (m .registers ++ (e .value ∷ [])) (e .skip) (e .cells)
 
+-- the instructions of a tick, one after another
 unfoldable pub execute : List ℕ → List Instruction → Machine → Machine
 execute controls [] m = m
 execute controls (x ∷ xs) m = execute controls xs (execute1 controls x m)
 
--- what the registers rs hold
+-- what the registers rs hold: of the "output registers", the outputs of the tick
 abbrev pub held : List ℕ → List ℕ → List ℕ
 held ρ rs = map (λ (r : ℕ). getD ρ r 0) rs

@@ -157,37 +157,37 @@ module _ (cells end : ℕ) where
   emit-passes base (leaf i cut) xs n w p e b h = passes-none n
   emit-passes base (join i sequence l r) xs n w p e b h =
       let a = emit base l xs n in
-      let k : length (a .code) ≡ need l = emit-need base l xs n (w .0) e in
+      let k : length (a .code) ≡ need l = emit-need base l xs n (w .0) in
       let f : Below (n + length (a .code)) (a .results) = rw k (emit-below base l xs n (w .0) e b) in
       passes-append n (a .code) _ (emit-passes base l xs n (w .0) (p .1) e b (omega arith))
-      (emit-passes base r (a .results) (n + length (a .code)) (w .1) (p .2) (emit-outs base l xs n (w .0) e ∙ w .2) f (omega arith))
+      (emit-passes base r (a .results) (n + length (a .code)) (w .1) (p .2) (emit-outs base l xs n (w .0) ∙ w .2) f (omega arith))
   emit-passes base (join i parallel l r) xs n w p e b h =
       let x = take (ins l) xs in
       let y = drop (ins l) xs in
       let a = emit base l x n in
       let u : length x ≡ ins l = length-take-le (ins l) xs (omega arith) in
       let v : length y ≡ ins r = omega (arith, length-drop (ins l) xs) in
-      let k : length (a .code) ≡ need l = emit-need base l x n (w .0) u in
+      let k : length (a .code) ≡ need l = emit-need base l x n (w .0) in
       passes-append n (a .code) _ (emit-passes base l x n (w .0) (p .1) u (below-take n (ins l) xs b) (omega arith))
       (emit-passes base r y (n + length (a .code)) (w .1) (p .2) v (below-more n (n + length (a .code)) (omega arith) y (below-drop n (ins l) xs b)) (omega arith))
   emit-passes base (join i split l r) xs n w p e b h =
       let a = emit base l xs n in
       let x = fill (ins r) (outs l) (a .results) in
-      let k : length (a .code) ≡ need l = emit-need base l xs n (w .0) e in
-      let u : length x ≡ ins r = length-fill (ins r) (outs l) (a .results) (times-whole (outs l) (ins r) (w .2)) (emit-outs base l xs n (w .0) e) in
+      let k : length (a .code) ≡ need l = emit-need base l xs n (w .0) in
+      let u : length x ≡ ins r = length-fill (ins r) (outs l) (a .results) (times-whole (outs l) (ins r) (w .2)) (emit-outs base l xs n (w .0)) in
       let f : Below (n + length (a .code)) (a .results) = rw k (emit-below base l xs n (w .0) e b) in
       passes-append n (a .code) _ (emit-passes base l xs n (w .0) (p .1) e b (omega arith))
       (emit-passes base r x (n + length (a .code)) (w .1) (p .2) u (below-copies (n + length (a .code)) (ins r / outs l) (a .results) f) (omega arith))
   emit-passes base (join i merge l r) xs n w p e b h =
       let a = emit base l xs n in
-      let k : length (a .code) ≡ need l = emit-need base l xs n (w .0) e in
+      let k : length (a .code) ≡ need l = emit-need base l xs n (w .0) in
       let n′ = n + length (a .code) in
       let j = outs l / ins r - 1 in
       let m = merges (ins r) j (ins r) 0 (a .results) n′ in
       let q : suc j * ins r ≡ outs l = whole (outs l / ins r) (outs l) (ins r) (times-whole (ins r) (outs l) (w .2)) (times-least (ins r) (outs l) (w .2)) in
       let v : length (m .code) ≡ ins r * j = merges-need (ins r) j (ins r) 0 n′ (a .results) in
       let f : Below n′ (a .results) = rw k (emit-below base l xs n (w .0) e b) in
-      let g = merges-pass (ins r) j (ins r) 0 n′ (a .results) (omega arith) (q ∙ sym (emit-outs base l xs n (w .0) e)) f in
+      let g = merges-pass (ins r) j (ins r) 0 n′ (a .results) (omega arith) (q ∙ sym (emit-outs base l xs n (w .0))) f in
       passes-append n (a .code) _ (emit-passes base l xs n (w .0) (p .1) e b (omega arith))
       (passes-append n′ (m .code) _ (g .passes)
       (emit-passes base r (m .results) (n′ + length (m .code)) (w .1) (p .2) (merges-outs (ins r) j (ins r) 0 n′ (a .results)) (rw v (g .below)) (omega arith)))
@@ -197,13 +197,13 @@ module _ (cells end : ℕ) where
       let a = emit base r (upFrom n q) n₁ in
       let n₂ = n₁ + length (a .code) in
       let d = emit base l (a .results ++ xs) n₂ in
-      let u : length (a .results) ≡ outs r = emit-outs base r (upFrom n q) n₁ (w .1) (length-upFrom n q) in
+      let u : length (a .results) ≡ outs r = emit-outs base r (upFrom n q) n₁ (w .1) in
       let v : length (a .results ++ xs) ≡ ins l = omega (arith, length-append (a .results) xs) in
-      let k : length (a .code) ≡ need r = emit-need base r (upFrom n q) n₁ (w .1) (length-upFrom n q) in
+      let k : length (a .code) ≡ need r = emit-need base r (upFrom n q) n₁ (w .1) in
       let f : Below n₂ (a .results) = rw k (emit-below base r (upFrom n q) n₁ (w .1) (length-upFrom n q) (below-from n₁ n q (omega arith))) in
       let c : Below n₂ (a .results ++ xs) = below-append n₂ (a .results) xs f (below-more n n₂ (omega arith) xs b) in
-      let z : length (d .results) ≡ outs l = emit-outs base l (a .results ++ xs) n₂ (w .0) v in
-      let k′ : length (d .code) ≡ need l = emit-need base l (a .results ++ xs) n₂ (w .0) v in
+      let z : length (d .results) ≡ outs l = emit-outs base l (a .results ++ xs) n₂ (w .0) in
+      let k′ : length (d .code) ≡ need l = emit-need base l (a .results ++ xs) n₂ (w .0) in
       let g : Below (n₂ + length (d .code)) (d .results) = rw k′ (emit-below base l (a .results ++ xs) n₂ (w .0) v c) in
       let o = writes (base i) (take q (d .results)) in
       passes-append n (reads (base i) q) (a .code ++ (d .code ++ o)) (passes-reads (base i) q n (p .0))
@@ -216,8 +216,8 @@ module _ (cells end : ℕ) where
       let a = emit base t (tailOf xs) n₁ in
       let o = writes (base i) (a .results) in
       let v : length (tailOf xs) ≡ ins t = length-tail (ins t) xs e in
-      let k : length (a .code) ≡ need t = emit-need base t (tailOf xs) n₁ w v in
-      let z : length (a .results) ≡ outs t = emit-outs base t (tailOf xs) n₁ w v in
+      let k : length (a .code) ≡ need t = emit-need base t (tailOf xs) n₁ w in
+      let z : length (a .results) ≡ outs t = emit-outs base t (tailOf xs) n₁ w in
       let c : Below n₁ (tailOf xs) = below-more n n₁ (omega arith) (tailOf xs) (below-tail n xs b) in
       let g : Below (n₁ + length (a .code)) (a .results) = rw k (emit-below base t (tailOf xs) n₁ w v c) in
       passes-one n (instruction 7 (headOr 0 xs) (length (a .code ++ o)) 0 0) ((a .code ++ o) ++ reads (base i) (outs t)) (skip-ok n (headOr 0 xs) (length (a .code ++ o)) (below-head n xs (omega arith) b) (omega (arith, length-append (a .code) o, length-writes (base i) (a .results))))
@@ -233,11 +233,11 @@ module _ (cells end : ℕ) where
 module _ (n : ℕ) (t : Tree) (w : WellFormed t) (c : Complete n t) where
   pub code-length : length ((translation n t) .instructions) ≡ need t
   unfolding translation
-  code-length = emit-need (cellsBefore t) t (upFrom 0 (ins t)) (ins t) w (length-upFrom 0 (ins t))
+  code-length = emit-need (cellsBefore t) t (upFrom 0 (ins t)) (ins t) w
 
   pub results-length : length ((translation n t) .results) ≡ outs t
   unfolding translation
-  results-length = emit-outs (cellsBefore t) t (upFrom 0 (ins t)) (ins t) w (length-upFrom 0 (ins t))
+  results-length = emit-outs (cellsBefore t) t (upFrom 0 (ins t)) (ins t) w
 
   code-passes : instructionsOk (cellsBefore t n) (ins t + need t) (ins t) ((translation n t) .instructions) ≡ true
   unfolding translation

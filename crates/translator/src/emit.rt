@@ -1,0 +1,112 @@
+// The translation of a node.
+use crate::parts::first_child;
+use crate::parts::put_closing;
+use crate::parts::put_holding;
+use crate::parts::put_middle;
+use crate::parts::put_opening;
+use crate::parts::put_skip;
+use crate::parts::second_child;
+use crate::place::Progress;
+use crate::place::push_one;
+use arity::fields::first_of;
+use arity::fields::kind_of;
+use arity::rows::inputs_of;
+use arity::rows::row_at;
+use beam::entry;
+use beam::one;
+use word::index;
+use word::operands;
+ghost use mathlib.Core.Path.{_≡_};
+ghost use Prim.Native.Nat.{_≤_};
+ghost use lib.Dec.{eqb};
+ghost use Rattle.word.specs.Choice.{pick};
+ghost use Rattle.word.specs.Operation.{operands as operandsOf};
+ghost use Rattle.arity.specs.Table.{kindAt};
+ghost use Rattle.walker.specs.Ready.{Inside};
+ghost use Rattle.translator.specs.Writing.{Room};
+ghost use Rattle.translator.specs.Parts.{Translatable, emission, Emits};
+
+// The last operand of an operation: a one-input op has 0.
+fn last_operand(op: u32, y: u32) -> u32
+    ensures { λ r. ⌜ r ≡ pick (eqb (operandsOf op) 2) y 0 ⌝ }
+{
+    if operands(op) == 2 {
+        return y;
+    }
+    0
+}
+
+// The translation of a primitive.
+fn emit_leaf(
+    table: &[u32],
+    shape: &[u32; 2048],
+    node: usize,
+    p: Progress,
+    code: &mut [u32],
+) -> Progress
+    requires { ⌜ Translatable (now table) (now shape) ⌝ }
+    requires { ⌜ Inside (now table) node ⌝ }
+    requires { ⌜ kindAt (now table) node ≤ 6 ⌝ }
+    requires { ⌜ Room (emission (now table) node p .code) (p .place) (now code) ⌝ }
+    ensures { λ r. ⌜ Emits (now (table .entry)) node p (now (code .entry)) r (now (code .exit)) ⌝ }
+{
+    let kind = kind_of(table, node);
+    let value = first_of(table, node);
+    let n = inputs_of(shape, node);
+    let xs = p.regs;
+    let place = p.place;
+    let x = entry(&xs, n, 0);
+    let y = entry(&xs, n, 1);
+    if kind == 1 {
+        return push_one(code, place, 1, value, 0, 0, 0);
+    }
+    if kind == 2 {
+        return push_one(code, place, 2, value, 0, 0, 0);
+    }
+    if kind == 3 {
+        return push_one(code, place, 3, value, x, last_operand(value, y), 0);
+    }
+    if kind == 4 {
+        let own = row_at(shape, node);
+        return push_one(code, place, 4, x, y, own.cell, value);
+    }
+    if kind == 5 {
+        return Progress {
+            regs: one(x),
+            place: place,
+        };
+    }
+    p
+}
+
+// The translation of a node: its inputs are the first registers of p, its outputs the first of the answer.
+pub fn emit_node(
+    table: &[u32],
+    shape: &[u32; 2048],
+    node: usize,
+    p: Progress,
+    code: &mut [u32],
+) -> Progress
+    requires { ⌜ Translatable (now table) (now shape) ⌝ }
+    requires { ⌜ Inside (now table) node ⌝ }
+    requires { ⌜ Room (emission (now table) node p .code) (p .place) (now code) ⌝ }
+    ensures { λ r. ⌜ Emits (now (table .entry)) node p (now (code .entry)) r (now (code .exit)) ⌝ }
+{
+    let kind = kind_of(table, node);
+    if kind <= 6 {
+        return emit_leaf(table, shape, node, p, code);
+    }
+    if kind == 12 {
+        let body = index(first_of(table, node));
+        let o = put_skip(table, shape, node, p, code);
+        let q = emit_node(table, shape, body, o, code);
+        return put_holding(table, shape, node, q, code);
+    }
+    let first = first_child(table, node);
+    let second = second_child(table, node);
+    let o = put_opening(table, shape, node, p, code);
+    let q = emit_node(table, shape, first, o, code);
+    let m = put_middle(table, shape, node, p, q, code);
+    let r = emit_node(table, shape, second, m, code);
+    put_closing(table, shape, node, q, r, code)
+}

@@ -1,0 +1,108 @@
+// Where code is written: instruction after instruction, each with a register of its own.
+ghost use mathlib.Core.Path.{_≡_};
+ghost use mathlib.Core.List.{[], _∷_};
+ghost use Prim.Native.Nat.{_+_, _≤_};
+ghost use lib.ListN.{take};
+ghost use Rattle.flat.specs.Flat.{instruction};
+ghost use Rattle.translator.specs.Emit.{single, reads, writes, upFrom};
+ghost use Rattle.translator.specs.Writing.{Room, Written, Puts, onCells};
+use beam::one;
+
+// The numbers of an instruction.
+pub const WIDTH: usize = 5;
+
+// The numbers before the first instruction.
+pub const HEADER: usize = 4;
+
+// The next instruction: the register that it writes, and where it stands.
+pub struct Place {
+    pub next: u32,
+    pub at: usize,
+}
+
+// The registers of a beam, and the next instruction.
+pub struct Progress {
+    pub regs: [u32; 32],
+    pub place: Place,
+}
+
+// One instruction.
+pub fn push(code: &mut [u32], p: Place, op: u32, a: u32, b: u32, c: u32, d: u32) -> Place
+    requires { ⌜ Room (instruction op a b c d ∷ []) p (now code) ⌝ }
+    ensures { λ r. ⌜ Written (instruction op a b c d ∷ []) p (now (code .entry)) r (now (code .exit)) ⌝ }
+{
+    let at = p.at;
+    code[at] = op;
+    code[at + 1] = a;
+    code[at + 2] = b;
+    code[at + 3] = c;
+    code[at + 4] = d;
+    Place {
+        next: p.next + 1,
+        at: at + WIDTH,
+    }
+}
+
+// One instruction whose register is a result.
+pub fn push_one(code: &mut [u32], p: Place, op: u32, a: u32, b: u32, c: u32, d: u32) -> Progress
+    requires { ⌜ Room (instruction op a b c d ∷ []) p (now code) ⌝ }
+    ensures { λ r. ⌜ Puts (single (instruction op a b c d) (p .next)) 1 p (now (code .entry)) r (now (code .exit)) ⌝ }
+{
+    let next = p.next;
+    let q = push(code, p, op, a, b, c, d);
+    Progress {
+        regs: one(next),
+        place: q,
+    }
+}
+
+// An instruction on each of `count` cells from `cell` on, with the registers in order.
+fn put_cells(code: &mut [u32], p: Place, op: u32, cell: u32, regs: [u32; 32], count: usize) -> Place
+    requires { ⌜ (count ≤ 32) × (cell + count ≤ 65536) ⌝ }
+    requires { ⌜ Room (onCells op cell (take count regs)) p (now code) ⌝ }
+    ensures { λ r. ⌜ Written (onCells op cell (take count regs)) p (now (code .entry)) r (now (code .exit)) ⌝ }
+{
+    let mut q = p;
+    let mut to = cell;
+    let mut i: usize = 0;
+    while i < count {
+        q = push(code, q, op, to, regs[i], 0, 0);
+        to += 1;
+        i += 1;
+    }
+    q
+}
+
+// Reads of `count` cells.
+pub fn put_reads(code: &mut [u32], p: Place, cell: u32, count: usize) -> Place
+    requires { ⌜ (count ≤ 32) × (cell + count ≤ 65536) ⌝ }
+    requires { ⌜ Room (reads cell count) p (now code) ⌝ }
+    ensures { λ r. ⌜ Written (reads cell count) p (now (code .entry)) r (now (code .exit)) ⌝ }
+{
+    put_cells(code, p, 5, cell, [0u32; 32], count)
+}
+
+// Writes of the first `count` registers.
+pub fn put_writes(code: &mut [u32], p: Place, cell: u32, regs: [u32; 32], count: usize) -> Place
+    requires { ⌜ (count ≤ 32) × (cell + count ≤ 65536) ⌝ }
+    requires { ⌜ Room (writes cell (take count regs)) p (now code) ⌝ }
+    ensures { λ r. ⌜ Written (writes cell (take count regs)) p (now (code .entry)) r (now (code .exit)) ⌝ }
+{
+    put_cells(code, p, 6, cell, regs, count)
+}
+
+// The `count` registers from `first` on.
+pub fn ascending(first: u32, count: usize) -> [u32; 32]
+    requires { ⌜ (count ≤ 32) × (first + count ≤ 65536) ⌝ }
+    ensures { λ r. ⌜ take count r ≡ upFrom first count ⌝ }
+{
+    let mut regs = [0u32; 32];
+    let mut next = first;
+    let mut i: usize = 0;
+    while i < count {
+        regs[i] = next;
+        next += 1;
+        i += 1;
+    }
+    regs
+}
