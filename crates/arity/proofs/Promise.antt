@@ -12,7 +12,8 @@ use Rattle.arity.specs.Rules.{Arity}
 use Rattle.arity.specs.WellFormed.{Fits, WellFormed}
 use Rattle.arity.specs.Nodes.{Numbered, Complete, cellsBefore}
 use Rattle.arity.specs.Check.{ruleFits, report, checked, cellsOf, firstCell}
-use Rattle.arity.specs.Checked.{answerOf, Checked}
+use Rattle.refusal.specs.Answer.Answer.{counts}
+use Rattle.arity.specs.Checked.{answerOf, LoosePlace, Checked}
 use Rattle.arity.specs.Formed.{Child, Children}
 use Rattle.arity.specs.Survey.{rowOf, rowAt, putRow, filled, surveyed}
 use Rattle.arity.specs.Promise.{Words, Node, Promise, Shaped}
@@ -118,6 +119,11 @@ pub same-answer : {t : List ℕ} {o : CheckAnswer} {a b c d : ℕ} → Checked t
 same-answer {t} k e p =
     let x = passed k e .0 in
     passes p t (even t (λ z. omega (arith, x .whole, x .least)) (omega (arith, x .whole))) (x .most) (x .right) ∙ rw (x .tight p) (passed k e .1)
+
+-- a table that the check counts is accepted
+pub accepted-as : (p : ℕ) (t ks : List ℕ) → LoosePlace t p → checked p t ≡ counts ks →
+    Checked t (Accepted (ins (circuit t)) (outs (circuit t)) (need (circuit t)) (firstCell t (nodes t)))
+accepted-as p t ks l e = record { place = p; isLoose = l; answer = has-passed p t ks l e .1 ∙ sym e }
 
 -- what an accepted table is; its entries are words
 pub promise : {t : List ℕ} {o : CheckAnswer} {a b c d : ℕ} → Checked t o → o ≡ Accepted a b c d → Words t → Promise t a b c d

@@ -41,7 +41,7 @@ node-room i h = rw (numeral-small i (omega arith)) (decimal-length i 4 (omega ar
 abbrev pub Words : List ℕ → Type 0
 Words table = (k : ℕ) → getD table k 0 < 2 ^ 32
 
-words-take : (n : ℕ) (l : List ℕ) → Words l → Words (take n l)
+pub words-take : (n : ℕ) (l : List ℕ) → Words l → Words (take n l)
 words-take zero l w k = omega arith
 words-take (suc n) [] w k = omega arith
 words-take (suc n) (x ∷ l) w zero = w 0

@@ -5,6 +5,7 @@ mod writer;
 
 pub use reader::read;
 use refusal::Refusal;
+pub use writer::put_columns;
 pub use writer::write;
 
 // 4 columns, three times 12 and a line feed.

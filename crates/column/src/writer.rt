@@ -17,7 +17,7 @@ use crate::columns::put_number;
 use refusal::Refusal;
 
 // Numbers in columns of 12, from `from` on.
-fn put_columns(numbers: &[u32], file: &mut [u8], from: usize)
+pub fn put_columns(numbers: &[u32], file: &mut [u8], from: usize)
     requires { ⌜ from + 12 * length (now numbers) ≤ length (now file) ⌝ }
     ensures { λ _. ⌜ now (file .exit) ≡ sets (now (file .entry)) from (columns (map value (now (numbers .entry)))) ⌝ }
 {

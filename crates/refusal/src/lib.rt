@@ -1,5 +1,6 @@
 // The refusals of the document, each named for what it means, with its number and its place.
 ghost use mathlib.Core.Path.{_≡_};
+ghost use Rattle.word.specs.Word.{low};
 ghost use Rattle.refusal.specs.Refusals.{numberOf, lineOrNode, placeOf};
 
 // The place of the first nine is a line of a column file or a node of a table.
@@ -86,4 +87,14 @@ pub fn place(refusal: Refusal) -> i64
         return line_or_node(refusal) as i64;
     }
     -1
+}
+
+// The place as a 32-bit number in two's complement.
+pub fn place_word(refusal: Refusal) -> u32
+    ensures { λ r. ⌜ r ≡ low (placeOf refusal) ⌝ }
+{
+    if number(refusal) <= 9 {
+        return line_or_node(refusal);
+    }
+    4294967295
 }

@@ -1,0 +1,87 @@
+-- The lines of a code: how many numbers and bytes they take.
+use Prim.Native.Nat.{ℕ, zero, suc, _+_, _-_, _*_, _≤_}
+use mathlib.Core.Path.{_≡_, refl, sym, ap, _∙_}
+use mathlib.Core.List.{List, _++_}
+use native.Mathlib.Omega.{arith}
+use lib.ListN.{length, take, drop, length-append, length-drop}
+use lib.Seq.{sets, length-sets, length-take-le, take-all}
+use Rattle.flat.specs.Code.{instructionCount, outputCount, resultsAt}
+use Rattle.flat.specs.Steps.{Header}
+use Rattle.column.proofs.Stores.{sets-append}
+use Rattle.column.proofs.Writes.{Words, words-take}
+use Rattle.listing.specs.Print.{line, rows, codeText}
+use Rattle.listing.specs.Steps.{Full, Rows, Put, Listable}
+use Rattle.listing.proofs.Laying.{words-drop, line-length, rows-length}
+
+-- a part to the end
+pub rest : (l : List ℕ) (a : ℕ) → take (length l - a) (drop a l) ≡ drop a l
+rest l a = take-all (length l - a) (drop a l) (rw (length-drop a l) (omega arith))
+
+full-five : (k : ℕ) (ws : List ℕ) → 5 * k ≤ length ws → Full 5 k ws
+full-five zero ws h = tt
+full-five (suc k) ws h = (omega arith, full-five k (drop 5 ws) (rw (length-drop 5 ws) (omega arith)))
+
+full-one : (k : ℕ) (ws : List ℕ) → k ≤ length ws → Full 1 k ws
+full-one zero ws h = tt
+full-one (suc k) ws h = (omega arith, full-one k (drop 1 ws) (rw (length-drop 1 ws) (omega arith)))
+
+module _ (code text₀ : List ℕ) (words : Words code) (p : Listable code text₀) where
+  abbrev c : ℕ
+  c = instructionCount code
+
+  abbrev m : ℕ
+  m = outputCount code
+
+  header-line : length (line (take 4 code)) ≡ 49
+  header-line =
+      let l : length (take 4 code) ≡ 4 = length-take-le 4 code (omega (arith, p .head .long)) in
+      line-length (take 4 code) (words-take 4 code words) ∙ rw l
+
+  instructions-full : Full 5 c (drop 4 code)
+  instructions-full = full-five c (drop 4 code) (rw (length-drop 4 code) (omega (arith, p .head .long)))
+
+  outputs-full : Full 1 m (drop (resultsAt c) code)
+  outputs-full = full-one m (drop (resultsAt c) code) (rw (length-drop (resultsAt c) code) (omega (arith, p .head .long)))
+
+  instructions-bytes : length (rows 5 c (drop 4 code)) ≡ c * 61
+  instructions-bytes = rows-length 5 c (drop 4 code) (words-drop 4 code words) instructions-full
+
+  outputs-bytes : length (rows 1 m (drop (resultsAt c) code)) ≡ m * 13
+  outputs-bytes = rows-length 1 m (drop (resultsAt c) code) (words-drop (resultsAt c) code words) outputs-full
+
+  module _ (a : ℕ) (text₁ : List ℕ) (q : Put (line (take 4 code)) text₀ 0 a text₁) (i : ℕ) (i-is : i ≡ c) (is : List ℕ) (is-are : is ≡ drop 4 code) where
+    long-one : length text₁ ≡ length text₀
+    long-one = ap length (q .put) ∙ length-sets text₀ 0 (line (take 4 code))
+
+    pub instructions-room : Rows is 5 i text₁ a
+    instructions-room = rw (i-is, is-are) (record { full = instructions-full; room = omega (arith, q .next-is, header-line, instructions-bytes, long-one, p .room, p .head .count) })
+
+    module _ (b : ℕ) (text₂ : List ℕ) (r : Put (rows 5 i is) text₁ a b text₂) (j : ℕ) (j-is : j ≡ m) (os : List ℕ) (os-are : os ≡ drop (4 + 5 * c) code) where
+      listed : Put (rows 5 c (drop 4 code)) text₁ a b text₂
+      listed = rw (i-is, is-are) at r
+
+      long-two : length text₂ ≡ length text₁
+      long-two = ap length (listed .put) ∙ length-sets text₁ a (rows 5 c (drop 4 code))
+
+      pub outputs-room : Rows os 1 j text₂ b
+      outputs-room = rw (j-is, os-are) (record {
+        full = outputs-full;
+        room = omega (arith, q .next-is, listed .next-is, header-line, instructions-bytes, outputs-bytes, long-one, long-two, p .room, p .head .count, p .head .outs);
+      })
+
+      pub code-put : (e : ℕ) (text₃ : List ℕ) → Put (rows 1 j os) text₂ b e text₃ → Put (codeText code) text₀ 0 e text₃
+      unfolding codeText
+      code-put e text₃ s =
+          let x : List ℕ = line (take 4 code) in
+          let y : List ℕ = rows 5 c (drop 4 code) in
+          let z : List ℕ = rows 1 m (drop (resultsAt c) code) in
+          let last : Put z text₂ b e text₃ = rw (j-is, os-are) at s in
+          let l : length (x ++ (y ++ z)) ≡ length x + length (y ++ z) = length-append x (y ++ z) in
+          let k : length (y ++ z) ≡ length y + length z = length-append y z in
+          let first : sets text₁ a (y ++ z) ≡ sets text₀ 0 (x ++ (y ++ z)) = rw (q .put, q .next-is) (sym (sets-append x (y ++ z) text₀ 0)) in
+          let second : sets text₂ b z ≡ sets text₁ a (y ++ z) = rw (listed .put, listed .next-is) (sym (sets-append y z text₁ a)) in
+          record {
+            next-is = omega (arith, q .next-is, listed .next-is, last .next-is);
+            within = omega (arith, last .within, long-one, long-two);
+            put = last .put ∙ second ∙ first;
+          }

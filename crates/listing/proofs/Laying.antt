@@ -1,0 +1,88 @@
+-- The lines of a print as they are put.
+use Prim.Native.Nat.{ℕ, zero, suc, _+_, _-_, _*_, _^_, _≤_, _<_}
+use mathlib.Core.Path.{_≡_, refl, sym, ap, subst, _∙_}
+use mathlib.Core.List.{List, [], _∷_, _++_, map}
+use native.Mathlib.Omega.{arith}
+use native.Mathlib.Nat.{zero-mul, suc-mul}
+use lib.ListN.{length, getD, set, take, drop, length-append, length-drop}
+use lib.Seq.{sets, length-sets, length-take-le, getD-drop, drop-drop}
+use Rattle.word.specs.Word.{value}
+use Rattle.column.specs.Line.{lineFeed, columns}
+use Rattle.column.proofs.Stores.{sets-append}
+use Rattle.column.proofs.Writes.{Words, words-take, columns-length}
+use Rattle.listing.specs.Print.{line, rows}
+use Rattle.listing.specs.Steps.{Full, Rows, Put}
+
+pub words-drop : (n : ℕ) (l : List ℕ) → Words l → Words (drop n l)
+words-drop n l w k = rw (getD-drop n l k 0) (w (n + k))
+
+pub line-length : (ws : List ℕ) → Words ws → length (line ws) ≡ 12 * length ws + 1
+unfolding line
+line-length ws w = length-append (columns (map value ws)) (lineFeed ∷ []) ∙ ap (λ (n : ℕ). n + 1) (columns-length ws w)
+
+-- the columns, and behind them the line feed
+pub line-put : (ws f₀ f₁ : List ℕ) (from : ℕ) → Words ws → from + (12 * length ws + 1) ≤ length f₀ → f₁ ≡ sets f₀ from (columns (map value ws)) → Put (line ws) f₀ from (from + 12 * length ws + 1) (set f₁ (from + 12 * length ws) lineFeed)
+unfolding line
+line-put ws f₀ f₁ from w h e =
+    let l : length (columns (map value ws)) ≡ 12 * length ws = columns-length ws w in
+    let n : length (columns (map value ws) ++ (lineFeed ∷ [])) ≡ length (columns (map value ws)) + 1 = length-append (columns (map value ws)) (lineFeed ∷ []) in
+    record {
+      next-is = omega arith;
+      within = omega arith;
+      put = sym (sets-append (columns (map value ws)) (lineFeed ∷ []) f₀ from ∙ rw (l, ← e));
+    }
+
+pub rows-length : (w k : ℕ) (ws : List ℕ) → Words ws → Full w k ws → length (rows w k ws) ≡ k * (12 * w + 1)
+rows-length w zero ws v f = sym (zero-mul (12 * w + 1))
+rows-length w (suc k) ws v f =
+    let l : length (take w ws) ≡ w = length-take-le w ws (f .0) in
+    length-append (line (take w ws)) (rows w k (drop w ws))
+    ∙ rw (line-length (take w ws) (words-take w ws v), l, rows-length w k (drop w ws) (words-drop w ws v) (f .1), suc-mul k (12 * w + 1)) (omega arith)
+
+-- the lines that are left complete those that are put
+pub record Laying (numbers : List ℕ) (w count : ℕ) (text₀ : List ℕ) (from : ℕ) (text : List ℕ) (left first at : ℕ) : Type 0 where
+  pub inside : first ≤ length numbers
+  pub full : Full w left (drop first numbers)
+  pub long : length text ≡ length text₀
+  pub ends : at + length (rows w left (drop first numbers)) ≡ from + length (rows w count numbers)
+  pub done : sets text at (rows w left (drop first numbers)) ≡ sets text₀ from (rows w count numbers)
+
+pub laying-starts : (numbers : List ℕ) (w count : ℕ) (text : List ℕ) (from : ℕ) → Rows numbers w count text from → Laying numbers w count text from text count 0 from
+laying-starts numbers w count text from r = record { inside = omega arith; full = r .full; long = refl; ends = refl; done = refl }
+
+module _ (numbers : List ℕ) (w count : ℕ) (text₀ : List ℕ) (from : ℕ) (text : List ℕ) (words : Words numbers) where
+  -- the next line lies within the numbers and the text
+  pub laying-room : (left first at : ℕ) → 0 < left → from + length (rows w count numbers) ≤ length text₀ → Laying numbers w count text₀ from text left first at →
+      (first + w ≤ length numbers) × (at + (12 * length (take w (drop first numbers)) + 1) ≤ length text)
+  laying-room zero first at h r p = absurd (omega arith)
+  laying-room (suc k) first at h r p =
+      let n : length (line (take w (drop first numbers)) ++ rows w k (drop w (drop first numbers))) ≡ length (line (take w (drop first numbers))) + length (rows w k (drop w (drop first numbers))) = length-append (line (take w (drop first numbers))) (rows w k (drop w (drop first numbers))) in
+      let l = line-length (take w (drop first numbers)) (words-take w (drop first numbers) (words-drop first numbers words)) in
+      (omega (arith, p .full .0, p .inside, length-drop first numbers), omega (arith, p .ends, p .long))
+
+  laid : (k first at next : ℕ) (text′ : List ℕ) → Put (line (take w (drop first numbers))) text at next text′ →
+      Laying numbers w count text₀ from text (suc k) first at → Laying numbers w count text₀ from text′ k (first + w) next
+  laid k first at next text′ q p =
+      let ws : List ℕ = drop first numbers in
+      let n : length (line (take w ws) ++ rows w k (drop w ws)) ≡ length (line (take w ws)) + length (rows w k (drop w ws)) = length-append (line (take w ws)) (rows w k (drop w ws)) in
+      let d : drop w ws ≡ drop (first + w) numbers = drop-drop w first numbers in
+      let e : next + length (rows w k (drop w ws)) ≡ from + length (rows w count numbers) = omega (arith, q .next-is, p .ends) in
+      let s : sets text′ next (rows w k (drop w ws)) ≡ sets text₀ from (rows w count numbers) =
+      rw (q .put, q .next-is) (sym (sets-append (line (take w ws)) (rows w k (drop w ws)) text at) ∙ p .done) in
+      record {
+        inside = omega (arith, p .full .0, p .inside, length-drop first numbers);
+        full = rw d at (p .full .1);
+        long = ap length (q .put) ∙ length-sets text at (line (take w ws)) ∙ p .long;
+        ends = rw d at e;
+        done = rw d at s;
+      }
+
+  pub laying-next : (left first at next : ℕ) (text′ : List ℕ) → 0 < left → Put (line (take w (drop first numbers))) text at next text′ →
+      Laying numbers w count text₀ from text left first at → Laying numbers w count text₀ from text′ (left - 1) (first + w) next
+  laying-next left first at next text′ h q p =
+      let e : left ≡ suc (left - 1) = omega arith in
+      laid (left - 1) first at next text′ q (subst (λ (k : ℕ). Laying numbers w count text₀ from text k first at) e p)
+
+  pub laying-ends : (left first at : ℕ) → left ≤ 0 → from + length (rows w count numbers) ≤ length text₀ → Laying numbers w count text₀ from text left first at → Put (rows w count numbers) text₀ from at text
+  laying-ends zero first at h r p = record { next-is = omega (arith, p .ends); within = omega (arith, p .ends); put = p .done }
+  laying-ends (suc k) first at h r p = absurd (omega arith)

@@ -1,0 +1,5 @@
+pub mod Laying
+pub mod Codes
+pub mod Refused
+pub mod Tables
+pub mod Files

@@ -1,0 +1,72 @@
+-- "The translator's print"
+use Prim.Native.Nat.{ℕ, zero, suc}
+use mathlib.Core.Path.{_≡_}
+use mathlib.Core.List.{List, [], _∷_, _++_, map}
+use mathlib.Core.Option.{Option, none, some}
+use lib.IntN.{ℤ}
+use lib.ListN.{length, take, drop}
+use Rattle.word.specs.Word.{value, low}
+use Rattle.word.specs.Tick.{zeros, headOr}
+use Rattle.refusal.specs.Answer.{Answer}
+use Rattle.refusal.specs.Answer.Answer.{counts, refused}
+use Rattle.column.specs.Line.{lineFeed, columns, lines}
+use Rattle.column.specs.File.{fileRefusal, numbers}
+use Rattle.arity.specs.Checked.{LoosePlace}
+use Rattle.flat.specs.Flat.{width}
+use Rattle.flat.specs.Code.{header, instructionCount, outputCount, resultsAt}
+use Rattle.translator.specs.Translate.{Outcome, translatedTable}
+
+-- numbers on a line, "each number in 12 columns"
+unfoldable pub line : List ℕ → List ℕ
+line ws = columns (map value ws) ++ (lineFeed ∷ [])
+
+-- k lines of w numbers each
+abbrev pub rows : (w k : ℕ) → List ℕ → List ℕ
+rows w zero ws = []
+rows w (suc k) ws = line (take w ws) ++ rows w k (drop w ws)
+
+-- "the header on a line, each instruction on a line, each output on a line"
+unfoldable pub codeText : List ℕ → List ℕ
+codeText code =
+    line (take header code)
+    ++ (rows width (instructionCount code) (drop header code) ++ rows 1 (outputCount code) (drop (resultsAt (instructionCount code)) code))
+
+-- "number and place on one line"
+abbrev pub refusalText : ℕ → ℤ → List ℕ
+refusalText number place = line (number ∷ low place ∷ [])
+
+-- "prints the code .. On refusal it prints number and place"
+abbrev pub answerText : Answer → List ℕ → List ℕ
+answerText (counts ks) code = codeText (take (headOr 0 ks) code)
+answerText (refused number place) code = refusalText number place
+
+-- every code fits: 4, five times 2,048, and 32 numbers
+abbrev pub mostNumbers : ℕ
+mostNumbers = 10276
+
+abbrev pub outcomeText : Outcome → List ℕ
+outcomeText o = answerText (o .answer) (o .code)
+
+-- the print of a table; p is the place with refusal 9
+unfoldable pub tableText : ℕ → List ℕ → List ℕ
+tableText p table = outcomeText (translatedTable p table (zeros mostNumbers))
+
+-- the refusal of the lines, where there is one
+abbrev pub unlessRefused : Option Answer → List ℕ → List ℕ
+unlessRefused none text = text
+unlessRefused (some a) text = answerText a []
+
+-- "A program reads a column file .. and prints the code"
+unfoldable pub fileText : ℕ → List ℕ → List ℕ
+fileText p file = unlessRefused (fileRefusal file) (tableText p (numbers (lines file)))
+
+-- a buffer begins with a text of n bytes, and is otherwise as it was
+pub record Begins (shown text : List ℕ) (n : ℕ) (text′ : List ℕ) : Type 0 where
+  pub bytes : n ≡ length shown
+  pub put : text′ ≡ shown ++ drop n text
+
+-- the buffer holds the print of a file, with some loose node as the place of refusal 9
+pub record Printed (file text : List ℕ) (n : ℕ) (text′ : List ℕ) : Type 0 where
+  pub place : ℕ
+  pub isLoose : fileRefusal file ≡ none → LoosePlace (numbers (lines file)) place
+  pub begins : Begins (fileText place file) text n text′

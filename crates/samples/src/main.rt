@@ -1,0 +1,4 @@
+// Plays the document's cases on the entries.
+fn main() {
+    script::play();
+}

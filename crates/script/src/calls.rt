@@ -1,0 +1,136 @@
+// The calls of a script: each lends parts of the buffers, and prints the answer and what they hold.
+use crate::show;
+use arity::CheckAnswer;
+use cells::LoadAnswer;
+use column::ReadAnswer;
+use column::WriteAnswer;
+use flat::RunAnswer;
+use translator::TranslateAnswer;
+use walker::WalkAnswer;
+use word::index;
+
+pub fn check_table(table: &[u32]) {
+    show::text(b"check");
+    let answer = arity::check(table);
+    match answer {
+        CheckAnswer::Refused(r) => show::refused(r),
+        CheckAnswer::Accepted {
+            inputs: n,
+            outputs: m,
+            instructions: c,
+            cells: k,
+        } => {
+            show::number(n);
+            show::number(m);
+            show::number(c);
+            show::number(k);
+        }
+    }
+    show::text(b"\n");
+}
+
+fn show_buffer(buffer: &[u32]) {
+    show::text(b" |");
+    show::list(buffer);
+}
+
+// Reads into a buffer; gives how many numbers were read.
+pub fn read_file(file: &[u8], buffer: &mut [u32]) -> usize {
+    show::text(b"read");
+    let answer = column::read(file, buffer);
+    let mut count: usize = 0;
+    match answer {
+        ReadAnswer::Refused(r) => show::refused(r),
+        ReadAnswer::Nodes(n) => {
+            show::number(n);
+            if n <= 512 {
+                count = 3 * index(n);
+            }
+        }
+    }
+    show_buffer(buffer);
+    count
+}
+
+// Writes into a buffer; gives how many bytes were written.
+pub fn write_table(table: &[u32], buffer: &mut [u8]) -> usize {
+    show::text(b"write");
+    let answer = column::write(table, buffer);
+    let mut count: usize = 0;
+    match answer {
+        WriteAnswer::Refused(r) => show::refused(r),
+        WriteAnswer::Bytes(n) => {
+            show::number(n);
+            count = index(n);
+        }
+    }
+    show::text(b" |\n");
+    show::text(buffer);
+    show::text(b"\n");
+    count
+}
+
+// Translates into a buffer; gives how many numbers the code has.
+pub fn translate_table(table: &[u32], buffer: &mut [u32]) -> usize {
+    show::text(b"translate");
+    let answer = translator::translate(table, buffer);
+    let mut count: usize = 0;
+    match answer {
+        TranslateAnswer::Refused(r) => show::refused(r),
+        TranslateAnswer::Numbers(n) => {
+            show::number(n);
+            count = index(n);
+        }
+    }
+    show_buffer(buffer);
+    count
+}
+
+pub fn load_cells(named: u32, cells: &mut [u32]) {
+    let answer = cells::load(named, cells);
+    match answer {
+        LoadAnswer::Refused(r) => show::refused(r),
+        LoadAnswer::Cells(n) => show::number(n),
+    }
+}
+
+pub fn walk_block(
+    table: &[u32],
+    ticks: u32,
+    inputs: &[u32],
+    controls: &[u32],
+    cells: &mut [u32],
+    outputs: &mut [u32],
+) {
+    show::text(b"walk");
+    let answer = walker::walk(table, ticks, inputs, controls, cells, outputs);
+    match answer {
+        WalkAnswer::Refused(r) => show::refused(r),
+        WalkAnswer::Samples(n) => show::number(n),
+    }
+    show_buffer(outputs);
+}
+
+pub fn run_block(
+    code: &[u32],
+    ticks: u32,
+    inputs: &[u32],
+    controls: &[u32],
+    cells: &mut [u32],
+    outputs: &mut [u32],
+) {
+    show::text(b"run");
+    let answer = flat::run(code, ticks, inputs, controls, cells, outputs);
+    match answer {
+        RunAnswer::Refused(r) => show::refused(r),
+        RunAnswer::Samples(n) => show::number(n),
+    }
+    show_buffer(outputs);
+}
+
+// The translator's print of a file.
+pub fn print_file(file: &[u8]) {
+    let mut text = [0u8; 125393];
+    let bytes = listing::print(file, &mut text);
+    show::text(&text[..bytes]);
+}

@@ -1,0 +1,302 @@
+// Scripts over the entries of the engine: docs/SCRIPT.md has their form.
+mod calls;
+mod lines;
+mod show;
+mod text;
+
+use lines::argument;
+use text::find;
+use text::is;
+use text::read_list;
+use word::index;
+ghost use Prim.Native.Nat.{_≤_};
+
+// What a lent buffer of numbers holds before the call.
+pub(crate) const UNTOUCHED: u32 = 9;
+
+// How much of each buffer is set.
+pub(crate) struct Sizes {
+    pub table: usize,
+    pub code: usize,
+    pub inputs: usize,
+    pub controls: usize,
+    pub file: usize,
+}
+
+// What a line leaves: the sizes, and how many bytes after the line belong to it.
+struct Step {
+    sizes: Sizes,
+    taken: usize,
+}
+
+// The lines that set numbers.
+fn set_numbers(
+    line: &[u8],
+    sizes: Sizes,
+    table: &mut [u32],
+    code: &mut [u32],
+    inputs: &mut [u32],
+    controls: &mut [u32],
+) -> Sizes {
+    let mut s = sizes;
+    if is(line, b"table") {
+        s.table = read_list(line, 5, table);
+        return s;
+    }
+    if is(line, b"code") {
+        s.code = read_list(line, 4, code);
+        return s;
+    }
+    if is(line, b"inputs") {
+        s.inputs = read_list(line, 6, inputs);
+        return s;
+    }
+    if is(line, b"controls") {
+        s.controls = read_list(line, 8, controls);
+        return s;
+    }
+    s
+}
+
+// The bytes after `file N` into the file; gives how many.
+fn set_file(line: &[u8], rest: &[u8], file: &mut [u8]) -> usize {
+    let count = index(argument(line, 4));
+    if rest.len() < count {
+        return 0;
+    }
+    if file.len() < count {
+        return 0;
+    }
+    bytes::copy(&rest[0..count], file);
+    count
+}
+
+// The lines that need no memory.
+fn play_table(
+    line: &[u8],
+    sizes: Sizes,
+    table: &mut [u32],
+    code: &mut [u32],
+    file: &mut [u8],
+    buffer: &mut [u32],
+) -> Sizes {
+    let mut s = sizes;
+    if is(line, b"check") {
+        lines::check_line(table, s.table);
+        return s;
+    }
+    if is(line, b"read") {
+        let count = lines::read_line(line, s, file, table, buffer);
+        s.table = count;
+        return s;
+    }
+    if is(line, b"write") {
+        let count = lines::write_line(line, s, table, file);
+        s.file = count;
+        return s;
+    }
+    if is(line, b"translate") {
+        let count = lines::translate_line(line, s, table, code, buffer);
+        s.code = count;
+        return s;
+    }
+    if is(line, b"print") {
+        lines::print_line(file, s.file);
+        return s;
+    }
+    s
+}
+
+// The lines that need no table.
+fn play_memory(line: &[u8], walked: &mut [u32], ran: &mut [u32]) {
+    if is(line, b"#") {
+        show::text(line);
+        show::text(b"\n");
+        return;
+    }
+    if is(line, b"memory") {
+        lines::memory_line(line, walked, ran);
+        return;
+    }
+    if is(line, b"load") {
+        lines::load_line(line, walked, ran);
+        return;
+    }
+    if is(line, b"cells") {
+        lines::cells_line(line, walked, ran);
+        return;
+    }
+}
+
+// The lines that walk or run a block.
+fn play_block(
+    line: &[u8],
+    sizes: Sizes,
+    table: &[u32],
+    code: &[u32],
+    inputs: &[u32],
+    controls: &[u32],
+    walked: &mut [u32],
+    ran: &mut [u32],
+    buffer: &mut [u32],
+) {
+    if is(line, b"walk") {
+        lines::walk_line(line, sizes, table, inputs, controls, walked, buffer);
+        return;
+    }
+    if is(line, b"run") {
+        lines::run_line(line, sizes, code, inputs, controls, ran, buffer);
+        return;
+    }
+}
+
+// The line that is followed by the bytes of a file.
+fn play_file(line: &[u8], rest: &[u8], sizes: Sizes, file: &mut [u8]) -> Step {
+    let mut s = sizes;
+    if is(line, b"file") {
+        let taken = set_file(line, rest, file);
+        s.file = taken;
+        return Step {
+            sizes: s,
+            taken: taken,
+        };
+    }
+    Step { sizes: s, taken: 0 }
+}
+
+// One line, with the text after it.
+fn play_line(
+    line: &[u8],
+    rest: &[u8],
+    sizes: Sizes,
+    table: &mut [u32],
+    code: &mut [u32],
+    inputs: &mut [u32],
+    controls: &mut [u32],
+    file: &mut [u8],
+    walked: &mut [u32],
+    ran: &mut [u32],
+    buffer: &mut [u32],
+) -> Step {
+    play_memory(line, walked, ran);
+    let set = set_numbers(line, sizes, table, code, inputs, controls);
+    let s = play_table(line, set, table, code, file, buffer);
+    play_block(line, s, table, code, inputs, controls, walked, ran, buffer);
+    play_file(line, rest, s, file)
+}
+
+// So many bytes on, or the end.
+fn behind(from: usize, count: usize, end: usize) -> usize
+    requires { ⌜ from ≤ end ⌝ }
+    ensures { λ r. ⌜ from ≤ r ⌝ }
+{
+    if end - from < count {
+        return end;
+    }
+    from + count
+}
+
+// A piece of a script, line by line.
+fn play_piece(
+    piece: &[u8],
+    sizes: Sizes,
+    table: &mut [u32],
+    code: &mut [u32],
+    inputs: &mut [u32],
+    controls: &mut [u32],
+    file: &mut [u8],
+    walked: &mut [u32],
+    ran: &mut [u32],
+    buffer: &mut [u32],
+) -> Sizes {
+    let mut s = sizes;
+    let mut at: usize = 0;
+    while at < piece.len() {
+        let end = find(piece, at, b'\n');
+        if end == piece.len() {
+            return s;
+        }
+        let next = end + 1;
+        let step = play_line(
+            &piece[at..end],
+            &piece[next..],
+            s,
+            table,
+            code,
+            inputs,
+            controls,
+            file,
+            walked,
+            ran,
+            buffer,
+        );
+        s = step.sizes;
+        at = behind(next, step.taken, piece.len());
+    }
+    s
+}
+
+// The script on standard input, piece by piece.
+fn play_pieces(
+    piece: &mut [u8],
+    table: &mut [u32],
+    code: &mut [u32],
+    inputs: &mut [u32],
+    controls: &mut [u32],
+    file: &mut [u8],
+    walked: &mut [u32],
+    ran: &mut [u32],
+    buffer: &mut [u32],
+) {
+    let mut sizes = Sizes {
+        table: 0,
+        code: 0,
+        inputs: 0,
+        controls: 0,
+        file: 0,
+    };
+    let mut left: u32 = 1000;
+    while 0 < left {
+        let count = io::read_full(0, piece);
+        if count == 0 {
+            return;
+        }
+        sizes = play_piece(
+            &piece[..count],
+            sizes,
+            table,
+            code,
+            inputs,
+            controls,
+            file,
+            walked,
+            ran,
+            buffer,
+        );
+        left -= 1;
+    }
+}
+
+// Plays the script on standard input.
+pub fn play() {
+    let mut piece = [0u8; 65536];
+    let mut table = [0u32; 2000];
+    let mut code = [0u32; 12000];
+    let mut inputs = [0u32; 131200];
+    let mut controls = [0u32; 32];
+    let mut file = [0u8; 21100];
+    let mut walked = [0u32; 17000];
+    let mut ran = [0u32; 17000];
+    let mut buffer = [0u32; 131200];
+    play_pieces(
+        &mut piece,
+        &mut table,
+        &mut code,
+        &mut inputs,
+        &mut controls,
+        &mut file,
+        &mut walked,
+        &mut ran,
+        &mut buffer,
+    );
+}

@@ -1,0 +1,4 @@
+// Plays the random cases of the other implementation on the entries.
+fn main() {
+    script::play();
+}

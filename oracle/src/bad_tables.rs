@@ -1,0 +1,175 @@
+//! Cases of damaged tables, aimed at each of the refusals 3 to 9.
+
+use crate::arity::{check, Node};
+use crate::circuits::{beside, cable, leaf, ondemand, pair, table, Tree};
+use crate::good_cases::circuit;
+use crate::random::Random;
+use crate::script::Command;
+
+pub fn bad_table_case(random: &mut Random) -> Vec<Command> {
+    let size = 2 + random.below(12);
+    let good = circuit(random, size).table;
+    let mut case = vec![Command::Memory(7), Command::Inputs(vec![])];
+    case.push(Command::Controls(vec![0; 16]));
+    for _ in 0..2 + random.below(4) {
+        let bad = damaged(random, &good);
+        case.push(Command::Table(bad));
+        case.push(Command::Check);
+        match random.below(8) {
+            0 | 1 => case.push(Command::Translate(random.below(4))),
+            2 => case.push(Command::Walk(random.within(-1, 1) as u32, 0, 0)),
+            3 => case.push(Command::Write(random.below(41))),
+            _ => {}
+        }
+    }
+    case
+}
+
+/// The table with one or two things wrong; the place of a refusal is certain.
+pub fn damaged(random: &mut Random, good: &[u32]) -> Vec<u32> {
+    let aim = random.within(3, 9) as u32;
+    for attempt in 0.. {
+        let mut bad = good.to_vec();
+        let node = random.below(bad.len() / 3);
+        damage(random, &mut bad, node, aim);
+        let twice = random.percent(25);
+        if twice && !bad.is_empty() && bad.len().is_multiple_of(3) {
+            let (other, next) = (random.below(bad.len() / 3), random.within(4, 7) as u32);
+            let node = node.min(bad.len() / 3 - 1);
+            let at = if random.percent(50) { node } else { other };
+            damage(random, &mut bad, at, next);
+        }
+        if let Err(refused) = check(&bad) {
+            let aimed = refused.number == aim || twice || attempt > 40;
+            if aimed && refused.places.len() == 1 {
+                return bad;
+            }
+        }
+    }
+    unreachable!()
+}
+
+fn damage(random: &mut Random, bad: &mut Vec<u32>, node: usize, aim: u32) {
+    let at = 3 * node;
+    match aim {
+        3 => lengthen(random, bad),
+        4 => bad[at] = random.pick(&[0, 13, -1, 14, i32::MIN, i32::MAX, 268]) as u32,
+        5 => spoil_field(random, bad, node),
+        6 => spoil_child(random, bad, node),
+        7 => misfit(random, bad, node),
+        8 => *bad = too_wide(random),
+        _ => loosen(random, bad),
+    }
+}
+
+/// "numbers no multiple of three, or not 1 to 512 nodes"
+fn lengthen(random: &mut Random, bad: &mut Vec<u32>) {
+    match random.below(20) {
+        0..=2 => bad.clear(),
+        3..=9 => bad.truncate(bad.len() - 1 - random.below(2)),
+        10..=18 => bad.extend(&[5, 0][..1 + random.below(2)]),
+        _ => *bad = vec![5; 1537 + random.below(6)],
+    }
+}
+
+/// "a used field of kinds 2 to 4 out of range, or an unused field not 0", each kind alike.
+fn spoil_field(random: &mut Random, bad: &mut [u32], node: usize) {
+    let kind = random.pick(&[1, 2, 3, 4, 5, 6, 12]);
+    let mut alike = (0..bad.len() / 3).filter(|n| bad[3 * n] == kind);
+    let at = 3 * alike.next_back().unwrap_or(node);
+    let wrong: &[i32] = match bad[at] {
+        2 => &[16, 16, -1, i32::MIN, i32::MAX],
+        3 => &[0, 10, 10, -1, i32::MIN, 265],
+        4 => &[4096, 4096, -1, i32::MIN, i32::MAX],
+        _ => &[1, -1, i32::MIN, 256],
+    };
+    let value = random.pick(wrong) as u32;
+    let used = matches!(bad[at], 1 | 12);
+    let second = used || (random.percent(30) && !matches!(bad[at], 7..=11));
+    bad[at + 1 + usize::from(second)] = value;
+}
+
+/// "a child negative, not lower, named twice, or taken before"
+fn spoil_child(random: &mut Random, bad: &mut [u32], node: usize) {
+    let last = bad.len() / 3 - 1;
+    let node = if Node::at(bad, node).children().is_empty() {
+        last
+    } else {
+        node
+    };
+    let at = 3 * node + 1;
+    let field = random.below(Node::at(bad, node).children().len().max(1));
+    let other = bad[at + 1 - field];
+    let wrong = [
+        -1,
+        node as i32,
+        node as i32 + 1,
+        i32::MIN,
+        512,
+        other as i32,
+        random.below(node + 1) as i32,
+        random.below(node + 1) as i32,
+    ];
+    bad[at + field] = random.pick(&wrong) as u32;
+}
+
+/// Another kind or order, so that "no arity rule fits".
+fn misfit(random: &mut Random, bad: &mut [u32], node: usize) {
+    let at = 3 * node;
+    match bad[at] {
+        7..=11 if random.percent(30) => bad.swap(at + 1, at + 2),
+        7..=11 => bad[at] = random.pick(&[7, 8, 9, 10, 11]),
+        12 => {}
+        3 => bad[at + 1] = random.pick(&[1, 2, 8, 9]),
+        _ => {
+            let other = random.pick(&[[1, 4], [3, 1], [4, 2], [5, 0], [6, 0], [3, 8]]);
+            bad[at..at + 2].copy_from_slice(&other);
+        }
+    }
+}
+
+/// Boxes side by side with exactly so many inputs (two to a box) and half the outputs.
+pub fn wide(random: &mut Random, inputs: usize) -> Tree {
+    let mut trees: Vec<Tree> = (0..inputs / 2)
+        .map(|_| leaf(3, random.within(1, 7)))
+        .collect();
+    if !inputs.is_multiple_of(2) {
+        trees.push(cable());
+    }
+    beside(random, trees)
+}
+
+/// "inputs or outputs above 32"
+pub fn too_wide(random: &mut Random) -> Vec<u32> {
+    let tree = match random.below(4) {
+        0 => ondemand(wide(random, 32)),
+        1 => {
+            let sources = (0..33).map(|_| leaf(1, 1)).collect();
+            beside(random, sources)
+        }
+        2 => {
+            let first = wide(random, 32);
+            pair(8, first, cable())
+        }
+        _ => wide(random, 33),
+    };
+    table(random, &tree)
+}
+
+/// "a node other than the last is nobody's child"
+fn loosen(random: &mut Random, bad: &mut Vec<u32>) {
+    let count = bad.len() / 3;
+    if count > 1 && random.percent(40) {
+        bad.truncate(3 * (count - 1));
+        return;
+    }
+    let at = random.below(count);
+    for node in at..count {
+        let fields = Node::at(bad, node).children().len();
+        for child in &mut bad[3 * node + 1..][..fields] {
+            *child += u32::from(*child as usize >= at);
+        }
+    }
+    let loose = random.pick(&[[1, 3, 0], [3, 1, 0], [5, 0, 0], [6, 0, 0], [4, 2, 0]]);
+    bad.splice(3 * at..3 * at, loose);
+}

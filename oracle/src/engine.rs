@@ -1,0 +1,56 @@
+//! What an engine under test offers: the entries of the document, over slices.
+//! Words are the 32-bit numbers as u32.
+
+#[derive(Clone, Copy, Debug, PartialEq, Eq)]
+pub struct Refusal {
+    pub number: u32,
+    pub place: i32,
+}
+
+#[derive(Clone, Copy, Debug, PartialEq, Eq)]
+pub struct Counts {
+    pub inputs: u32,
+    pub outputs: u32,
+    pub instructions: u32,
+    pub cells: u32,
+}
+
+pub trait Engine {
+    fn check(&self, table: &[u32]) -> Result<Counts, Refusal>;
+    fn read(&self, file: &[u8], table: &mut [u32]) -> Result<u32, Refusal>;
+    fn write(&self, table: &[u32], file: &mut [u8]) -> Result<u32, Refusal>;
+    fn translate(&self, table: &[u32], code: &mut [u32]) -> Result<u32, Refusal>;
+    fn load(&self, named: u32, cells: &mut [u32]) -> Result<u32, Refusal>;
+    fn walk(
+        &self,
+        table: &[u32],
+        ticks: u32,
+        inputs: &[u32],
+        controls: &[u32],
+        cells: &mut [u32],
+        outputs: &mut [u32],
+    ) -> Result<u32, Refusal>;
+    fn run(
+        &self,
+        code: &[u32],
+        ticks: u32,
+        inputs: &[u32],
+        controls: &[u32],
+        cells: &mut [u32],
+        outputs: &mut [u32],
+    ) -> Result<u32, Refusal>;
+}
+
+impl Refusal {
+    /// "A refusal is its number and a place: the line or node for 1 to 9, else -1."
+    pub fn nowhere(number: u32) -> Refusal {
+        Refusal { number, place: -1 }
+    }
+
+    pub fn at(number: u32, place: usize) -> Refusal {
+        Refusal {
+            number,
+            place: place as i32,
+        }
+    }
+}

@@ -1,0 +1,148 @@
+//! The oracle's answers to the calls that use cells. Samples and cells come from the meaning
+//! over the whole history wherever there is one; elsewhere from the interpreter.
+
+use crate::arity::check;
+use crate::engine::{Counts, Refusal};
+use crate::flat::{self, MOST_CELLS};
+use crate::meaning::Meaning;
+use crate::translate::code;
+
+/// What is known of a memory.
+enum Life {
+    Unknown,
+    /// A load named so many cells and nothing ran since.
+    Cleared(usize),
+    /// The cells are those of a table after a history that began with a load.
+    Told(Vec<u32>, Box<Meaning>),
+}
+
+/// One memory's past.
+pub struct Past(Life);
+
+/// What a call brings for its block.
+pub struct Block<'a> {
+    pub ticks: u32,
+    pub inputs: &'a [u32],
+    pub controls: &'a [u32],
+}
+
+impl Default for Past {
+    fn default() -> Past {
+        Past(Life::Unknown)
+    }
+}
+
+impl Past {
+    /// "Load: 11, 12." "A load sets the named count of cells to 0 and touches no others."
+    pub fn load(&mut self, named: u32, cells: &mut [u32]) -> Result<u32, Refusal> {
+        if named as usize > MOST_CELLS {
+            return Err(Refusal::nowhere(11));
+        }
+        if cells.len() < named as usize {
+            return Err(Refusal::nowhere(12));
+        }
+        cells[..named as usize].fill(0);
+        self.0 = Life::Cleared(named as usize);
+        Ok(named)
+    }
+
+    /// "Walker: table, 11, 14, 12."
+    pub fn walk(
+        &mut self,
+        table: &[u32],
+        block: &Block,
+        cells: &mut [u32],
+        outputs: &mut [u32],
+    ) -> Result<u32, Refusal> {
+        let checked = check(table).map_err(|refused| refused.first())?;
+        if checked.counts.cells as usize > MOST_CELLS {
+            return Err(Refusal::nowhere(11));
+        }
+        block_fits(&checked.counts, block, cells, outputs)?;
+        if !self.tell(table, block, cells, outputs) {
+            self.interpret(&code(table, &checked), block, cells, outputs);
+        }
+        Ok(block.ticks * checked.counts.outputs)
+    }
+
+    /// "Runner: 13, 14, 12." `table` is the one whose translation the code is, if it is one's.
+    pub fn run(
+        &mut self,
+        code: &[u32],
+        table: Option<&[u32]>,
+        block: &Block,
+        cells: &mut [u32],
+        outputs: &mut [u32],
+    ) -> Result<u32, Refusal> {
+        let counts = flat::check(code)?;
+        block_fits(&counts, block, cells, outputs)?;
+        let told = table.is_some_and(|table| self.tell(table, block, cells, outputs));
+        if !told {
+            self.interpret(code, block, cells, outputs);
+        }
+        Ok(block.ticks * counts.outputs)
+    }
+
+    /// Adds the block to the history, if there is one, and writes what the meaning says.
+    fn tell(
+        &mut self,
+        table: &[u32],
+        block: &Block,
+        cells: &mut [u32],
+        outputs: &mut [u32],
+    ) -> bool {
+        let checked = check(table).expect("an accepted table");
+        let counts = checked.counts;
+        if matches!(self.0, Life::Cleared(many) if many >= counts.cells as usize) {
+            let meaning = Meaning::of_checked(table, &checked);
+            self.0 = Life::Told(table.to_vec(), Box::new(meaning));
+        }
+        let Life::Told(known, meaning) = &mut self.0 else {
+            return false;
+        };
+        if known != table {
+            return false;
+        }
+        let (n, m) = (counts.inputs as usize, counts.outputs as usize);
+        for tick in 0..block.ticks as usize {
+            let inputs = &block.inputs[tick * n..(tick + 1) * n];
+            let samples = meaning.tick(inputs, block.controls);
+            outputs[tick * m..(tick + 1) * m].copy_from_slice(&samples);
+        }
+        cells[..counts.cells as usize].copy_from_slice(&meaning.cells());
+        true
+    }
+
+    fn interpret(&mut self, code: &[u32], block: &Block, cells: &mut [u32], outputs: &mut [u32]) {
+        let ticks = block.ticks as usize;
+        flat::interpret(code, block.inputs, block.controls, cells, outputs, ticks);
+        if ticks > 0 {
+            self.0 = Life::Unknown;
+        }
+    }
+
+    pub fn forget(&mut self) {
+        self.0 = Life::Unknown;
+    }
+}
+
+/// Row 14, then row 12: "ticks not 0 to 4,096; inputs not ticks × n; controls not 16", and
+/// "the buffer to be filled or changed is shorter than needed; last".
+fn block_fits(
+    counts: &Counts,
+    block: &Block,
+    cells: &[u32],
+    outputs: &[u32],
+) -> Result<(), Refusal> {
+    let ticks = block.ticks as usize;
+    if ticks > 4096
+        || block.inputs.len() != ticks * counts.inputs as usize
+        || block.controls.len() != 16
+    {
+        return Err(Refusal::nowhere(14));
+    }
+    if cells.len() < counts.cells as usize || outputs.len() < ticks * counts.outputs as usize {
+        return Err(Refusal::nowhere(12));
+    }
+    Ok(())
+}

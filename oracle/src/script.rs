@@ -1,0 +1,101 @@
+//! Scripts: their commands, their text, and what they print.
+
+use crate::engine::Engine;
+use crate::scene::{perform, Live, Oracle};
+
+/// "A script is played in pieces of 65,536 bytes."
+pub const PIECE: usize = 65536;
+
+#[derive(Clone, Debug, PartialEq, Eq)]
+pub enum Command {
+    Title(String),
+    Table(Vec<u32>),
+    Code(Vec<u32>),
+    Inputs(Vec<u32>),
+    Controls(Vec<u32>),
+    File(Vec<u8>),
+    Memory(u32),
+    Check,
+    Read(usize),
+    Write(usize),
+    Translate(usize),
+    Print,
+    /// The named count of cells, the count of lent ones.
+    Load(u32, usize),
+    /// Ticks, lent cells, length of the output buffer.
+    Walk(u32, usize, usize),
+    Run(u32, usize, usize),
+    Cells(usize),
+}
+
+/// What the script must print, by the oracle.
+pub fn expected(commands: &[Command]) -> String {
+    perform(commands, &mut Oracle::default())
+}
+
+/// What an engine makes the script print.
+pub fn play(commands: &[Command], engine: &impl Engine) -> String {
+    perform(commands, &mut Live(engine))
+}
+
+/// Whether the document leaves an answer in the script to the program: refusal 9 with more
+/// than one loose node.
+pub fn is_open(commands: &[Command]) -> bool {
+    let mut oracle = Oracle::default();
+    perform(commands, &mut oracle);
+    oracle.open
+}
+
+/// "A space stands before each number, and two or more equal numbers in a row, as many as
+/// there are, are one `v*k`."
+pub fn list(numbers: &[u32]) -> String {
+    let mut text = String::new();
+    for run in numbers.chunk_by(|a, b| a == b) {
+        text.push_str(&format!(" {}", run[0] as i32));
+        if run.len() > 1 {
+            text.push_str(&format!("*{}", run.len()));
+        }
+    }
+    text
+}
+
+/// The script's text, with line feeds that fill up a piece where a command does not fit.
+pub fn render(commands: &[Command]) -> Vec<u8> {
+    let mut text = Vec::new();
+    for command in commands {
+        let lines = render_one(command);
+        assert!(lines.len() <= PIECE, "a command longer than a piece");
+        let used = text.len() % PIECE;
+        if used + lines.len() > PIECE {
+            text.resize(text.len() + PIECE - used, b'\n');
+        }
+        text.extend(lines);
+    }
+    text
+}
+
+fn render_one(command: &Command) -> Vec<u8> {
+    let line = match command {
+        Command::Title(title) => format!("# {title}\n"),
+        Command::Table(numbers) => format!("table{}\n", list(numbers)),
+        Command::Code(numbers) => format!("code{}\n", list(numbers)),
+        Command::Inputs(numbers) => format!("inputs{}\n", list(numbers)),
+        Command::Controls(numbers) => format!("controls{}\n", list(numbers)),
+        Command::File(bytes) => format!("file {}\n", bytes.len()),
+        Command::Memory(value) => format!("memory {}\n", *value as i32),
+        Command::Check => "check\n".to_string(),
+        Command::Read(length) => format!("read {length}\n"),
+        Command::Write(length) => format!("write {length}\n"),
+        Command::Translate(length) => format!("translate {length}\n"),
+        Command::Print => "print\n".to_string(),
+        Command::Load(named, lent) => format!("load {} {lent}\n", *named as i32),
+        Command::Walk(ticks, cells, out) => format!("walk {} {cells} {out}\n", *ticks as i32),
+        Command::Run(ticks, cells, out) => format!("run {} {cells} {out}\n", *ticks as i32),
+        Command::Cells(count) => format!("cells {count}\n"),
+    };
+    let mut text = line.into_bytes();
+    if let Command::File(bytes) = command {
+        text.extend(bytes);
+    }
+    text
+}

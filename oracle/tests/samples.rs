@@ -1,0 +1,190 @@
+//! The document's bench samples, by the meaning.
+
+use oracle::arity::check;
+use oracle::column::{parse, text};
+use oracle::engine::Refusal;
+use oracle::meaning::Meaning;
+use oracle::script::{expected, Command};
+
+const INTEGRATOR: [i32; 9] = [3, 1, 0, 5, 0, 0, 11, 0, 1];
+
+fn words(numbers: &[i32]) -> Vec<u32> {
+    numbers.iter().map(|&number| number as u32).collect()
+}
+
+/// The samples of a table at ticks with these inputs, one list an input.
+fn samples(table: &[i32], inputs: &[&[i32]], ticks: usize) -> Vec<i32> {
+    let mut meaning = Meaning::of(&words(table));
+    let mut given = Vec::new();
+    for tick in 0..ticks {
+        let now: Vec<i32> = inputs.iter().map(|input| input[tick]).collect();
+        given.extend(meaning.tick(&words(&now), &[0; 16]));
+    }
+    given.iter().map(|&sample| sample as i32).collect()
+}
+
+#[test]
+fn integrator() {
+    let given = samples(&INTEGRATOR, &[&[1, 2, 3, 4]], 4);
+    assert_eq!(given, [1, 3, 6, 10]);
+}
+
+#[test]
+fn generator() {
+    // (12345, _ : +) ~ (1103515245, _ : *)
+    let table = [
+        [1, 12345, 0],
+        [5, 0, 0],
+        [8, 0, 1],
+        [3, 1, 0],
+        [7, 2, 3],
+        [1, 1103515245, 0],
+        [5, 0, 0],
+        [8, 5, 6],
+        [3, 3, 0],
+        [7, 7, 8],
+        [11, 4, 9],
+    ];
+    let given = samples(&table.concat(), &[], 3);
+    assert_eq!(given, [12345, -740551042, -1492899873]);
+}
+
+const DELAYED_ONE: [[i32; 3]; 5] = [[1, 1, 0], [1, 1, 0], [8, 0, 1], [4, 1, 0], [7, 2, 3]];
+
+#[test]
+fn delayed_number() {
+    assert_eq!(samples(&DELAYED_ONE.concat(), &[], 3), [0, 1, 1]);
+}
+
+#[test]
+fn product() {
+    let table = [
+        [1, 65536, 0],
+        [1, 32768, 0],
+        [8, 0, 1],
+        [3, 3, 0],
+        [7, 2, 3],
+    ];
+    assert_eq!(samples(&table.concat(), &[], 1), [-2147483648]);
+}
+
+#[test]
+fn merge_of_four() {
+    let numbers = [[1, 1, 0], [1, 2, 0], [1, 3, 0], [1, 4, 0]].concat();
+    let beams = [[8, 0, 1], [8, 2, 3], [8, 4, 5]].concat();
+    let cables = [[5, 0, 0], [5, 0, 0], [8, 7, 8], [10, 6, 9]].concat();
+    assert_eq!(samples(&[numbers, beams, cables].concat(), &[], 1), [4, 6]);
+}
+
+#[test]
+fn ondemand_cable() {
+    let table = [5, 0, 0, 12, 0, 0];
+    let clock = [1, 0, 0, 1, 0, 0, 0, 1, 0];
+    let input: Vec<i32> = (10..19).collect();
+    let given = samples(&table, &[&clock, &input], 9);
+    assert_eq!(given, [10, 10, 10, 13, 13, 13, 13, 17, 17]);
+    let never = samples(&table, &[&[2; 9], &input], 9);
+    assert_eq!(never, [0; 9]);
+}
+
+#[test]
+fn ondemand_integrator() {
+    let mut table = INTEGRATOR.to_vec();
+    table.extend([12, 2, 0]);
+    let given = samples(&table, &[&[1, 0, 1, 1], &[5, 6, 7, 8]], 4);
+    assert_eq!(given, [5, 5, 12, 20]);
+}
+
+#[test]
+fn ondemand_delayed_number() {
+    let mut table = DELAYED_ONE.concat();
+    table.extend([12, 4, 0]);
+    assert_eq!(samples(&table, &[&[0, 1, 0, 1]], 4), [0, 0, 0, 1]);
+}
+
+#[test]
+fn ondemand_in_ondemand() {
+    let table = [5, 0, 0, 12, 0, 0, 12, 1, 0];
+    let (outer, inner) = ([1, 1, 0, 1], [1, 0, 1, 1]);
+    let given = samples(&table, &[&outer, &inner, &[1, 2, 3, 4]], 4);
+    assert_eq!(given, [1, 1, 1, 4]);
+}
+
+#[test]
+fn cells_by_the_formulas() {
+    // A delay of 3 in an ondemand, five demands in seven ticks.
+    let mut meaning = Meaning::of(&[4, 3, 0, 12, 0, 0]);
+    let clock = [1, 0, 1, 1, 2, 1, 1];
+    for (tick, &demand) in clock.iter().enumerate() {
+        meaning.tick(&[demand, 10 + tick as u32, 2], &[0; 16]);
+    }
+    // Demands at 0 2 3 5 6: ring places 0 1 2 0 1 hold 15 16 13; the output was two ago.
+    assert_eq!(meaning.cells(), [2, 15, 16, 13, 13]);
+}
+
+#[test]
+fn delays_fill_the_cells() {
+    let four = [
+        [4, 4095, 0],
+        [4, 4095, 0],
+        [4, 4095, 0],
+        [4, 4095, 0],
+        [8, 0, 1],
+        [8, 2, 3],
+        [8, 4, 5],
+    ];
+    let five = [[4, 4095, 0], [8, 6, 7]];
+    let commands = [
+        Command::Table(words(&four.concat())),
+        Command::Check,
+        Command::Translate(28),
+        Command::Table(words(&[four.concat(), five.concat()].concat())),
+        Command::Check,
+        Command::Translate(2),
+        Command::Walk(0, 0, 0),
+    ];
+    let printed = expected(&commands);
+    let lines: Vec<&str> = printed.lines().collect();
+    assert_eq!(lines[0], "check 8 4 4 16384");
+    assert!(lines[1].starts_with("translate 28 | 8 4*2 16384 4 0 1 0 4095 4 2 3 4096"));
+    assert_eq!(lines[2], "check 10 5 5 20480");
+    assert_eq!(lines[3], "translate refused 11 -1 | 9*2");
+    assert_eq!(lines[4], "walk refused 11 -1 |");
+}
+
+/// So many cables side by side.
+fn cables(count: u32) -> Vec<u32> {
+    let mut table = vec![5, 0, 0];
+    for last in 0..count - 1 {
+        table.extend([5, 0, 0, 8, 2 * last, 2 * last + 1]);
+    }
+    table
+}
+
+#[test]
+fn wires_and_lines() {
+    assert_eq!(check(&cables(32)).expect("32 wires").counts.inputs, 32);
+    let refused = check(&cables(33)).expect_err("33 wires").first();
+    assert_eq!(refused, Refusal::at(8, 64));
+    let lines = [5, 0, 0].repeat(513);
+    assert_eq!(parse(&text(&lines[3..])).expect("512 lines").len(), 1536);
+    assert_eq!(parse(&text(&lines)), Err(Refusal::at(3, 512)));
+}
+
+#[test]
+fn integrator_print() {
+    let file = "   0           3           1           0
+   1           5           0           0
+   2          11           0           1
+";
+    let print = "           1           1           3           1
+           5           0           0           0           0
+           3           1           1           0           0
+           6           0           2           0           0
+           2
+";
+    let commands = [Command::File(file.as_bytes().to_vec()), Command::Print];
+    assert_eq!(expected(&commands), print);
+    let refused = [Command::File(vec![]), Command::Print];
+    assert_eq!(expected(&refused), "           3           0\n");
+}
