@@ -57,7 +57,7 @@ pub fn number(refusal: Refusal) -> u32
 }
 
 // The line or node of a refusal, 0 where it has none.
-fn line_or_node(refusal: Refusal) -> u32
+pub fn line_or_node(refusal: Refusal) -> u32
     ensures { λ r. ⌜ r ≡ lineOrNode refusal ⌝ }
 {
     match refusal {

@@ -1,0 +1,50 @@
+-- From the answers of the crates below to the numbers that stand for them.
+use Prim.Native.Nat.{ℕ, _+_, _*_, _^_, _<_, _≤_}
+use mathlib.Core.Path.{_≡_, refl, sym, ap, _∙_}
+use mathlib.Core.List.{List, [], _∷_}
+use lib.ListN.{length}
+use lib.Dec.{lit<}
+use lib.IntN.{pos}
+use native.Mathlib.Nat.{mod-eq-of-lt}
+use borrow.Author.Tests.{le-leb, lt-leb}
+use Rattle.word.specs.Word.{low}
+use Rattle.refusal.specs.declared.Refusal.{Refusal}
+use Rattle.refusal.specs.Refusals.{numberOf, lineOrNode}
+use Rattle.refusal.specs.Answer.{Answer, refusalOf, count, refusedAll}
+use Rattle.cells.specs.Cells.{store}
+use Rattle.cells.proofs.Parts.{store-parts}
+use Rattle.arity.specs.declared.CheckAnswer.{CheckAnswer}
+use Rattle.arity.specs.declared.CheckAnswer.the-variants.{Accepted}
+use Rattle.arity.specs.Checked.{Checked, answerOf}
+use Rattle.column.specs.Checks.{Called, called}
+use Rattle.circuit.specs.Encoded.{encoded}
+use Rattle.circuit.specs.Report.{reportedBy, report}
+use Rattle.circuit.specs.Calls.{Checks}
+
+-- a refusal at a line or node, and one without a place
+pub placed : (r : Refusal) {n p : ℕ} → n ≡ numberOf r → p ≡ lineOrNode r → p < 2 ^ 32 → n ≤ 9 → n * 2 ^ 32 + p ≡ encoded (refusalOf r)
+unfolding low
+placed r {n} {p} e f h g = rw (← e, ← f, le-leb n 9 g, mod-eq-of-lt h)
+
+pub unplaced : (r : Refusal) {n : ℕ} → n ≡ numberOf r → 9 < n → n * 2 ^ 32 + 4294967295 ≡ encoded (refusalOf r)
+unfolding low
+unplaced r {n} e g = rw (← e, lt-leb n 9 g)
+
+-- what encodes the case that an answer is encodes what the call answers
+pub encodes : {B : Type 0} (of : B → Answer) {a b : B} {n : ℕ} {x : Answer} → n ≡ encoded (of b) → a ≡ b → of a ≡ x → n ≡ encoded x
+encodes {B} of h e f = h ∙ sym (ap (λ (y : B). encoded (of y)) e) ∙ ap encoded f
+
+-- the check's report, by the case that its answer is
+module _ {table : List ℕ} {a : CheckAnswer} (k : Checked table a) (counts : List ℕ) where
+  pub reports : {b : CheckAnswer} {n : ℕ} {counts′ : List ℕ} {x : Answer} → a ≡ b → called x counts′ ≡ reportedBy (answerOf b) counts → n ≡ encoded x → Checks table counts n counts′
+  unfolding report
+  reports e f h =
+      let s : _ ≡ report (k .place) table counts =
+      f ∙ sym (ap (λ (y : CheckAnswer). reportedBy (answerOf y) counts) e) ∙ ap (λ (y : Answer). reportedBy y counts) (k .answer) in
+      record { place = k .place; isLoose = k .isLoose; answer = h ∙ ap (λ (l : Called). encoded (l .answer)) s; report-is = ap (λ (l : Called). l .buffer) s }
+
+pub short-report : (n m c d : ℕ) (counts : List ℕ) → length counts < 4 → called (refusedAll 12) counts ≡ reportedBy (answerOf (Accepted n m c d)) counts
+short-report n m c d counts h = rw (lt-leb 4 (length counts) h)
+
+pub whole-report : (n m c d : ℕ) (counts : List ℕ) → 4 ≤ length counts → called (count 4) (store 0 (n ∷ m ∷ c ∷ d ∷ []) counts) ≡ reportedBy (answerOf (Accepted n m c d)) counts
+whole-report n m c d counts h = rw (le-leb 4 (length counts) h) (ap (called (count 4)) (store-parts 0 (n ∷ m ∷ c ∷ d ∷ []) counts h))
