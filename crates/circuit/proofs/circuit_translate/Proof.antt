@@ -1,7 +1,6 @@
 -- `circuit::circuit_translate` meets its contract.
-use mathlib.Core.Path.{refl, ap}
-use Rattle.translator.specs.Translate.{answerOf, Outcome}
-use Rattle.circuit.proofs.Answers.{encodes}
+use mathlib.Core.Path.{refl}
+use Rattle.circuit.proofs.Answers.{translates}
 use borrow.Author.Needs.{needs}
 use Rattle.circuit.proofs.circuit_translate.Statement.{statement}
 use Rattle.circuit.proofs.circuit_translate.Tie as tie
@@ -19,9 +18,7 @@ same-length : tie.Need-same-length
 same-length c = search needs
 
 returns : tie.Need-returns
-returns c =
-    let w = c .before .before .before .before .before .before .translate .ensures in
-    record { place = w .place; isLoose = w .isLoose; answer = encodes answerOf (c .refused .ensures) (c .before .before .answer .given .1) (ap (λ (x : Outcome). x .answer) (w .result)); code-is = ap (λ (x : Outcome). x .code) (w .result) }
+returns c = translates (c .before .before .before .before .before .before .translate .ensures) (c .before .before .answer .given .1) (c .refused .ensures)
 
 enum-known-answer-2 : tie.Need-enum-known-answer-2
 enum-known-answer-2 c = search needs
@@ -33,9 +30,7 @@ same-length-2 : tie.Need-same-length-2
 same-length-2 c = search needs
 
 returns-2 : tie.Need-returns-2
-returns-2 c =
-    let w = c .before .before .before .before .before .translate .ensures in
-    record { place = w .place; isLoose = w .isLoose; answer = encodes answerOf refl (c .before .answer2 .given .1) (ap (λ (x : Outcome). x .answer) (w .result)); code-is = ap (λ (x : Outcome). x .code) (w .result) }
+returns-2 c = translates (c .before .before .before .before .before .translate .ensures) (c .before .answer2 .given .1) refl
 
 pub circuit-translate-spec : {M : Type 1} → statement M
 circuit-translate-spec =

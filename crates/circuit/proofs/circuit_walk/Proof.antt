@@ -1,8 +1,6 @@
 -- `circuit::circuit_walk` meets its contract.
-use mathlib.Core.Path.{refl, ap}
-use Rattle.walker.specs.Walk.{answerOf}
-use Rattle.cells.specs.Block.{Ran}
-use Rattle.circuit.proofs.Answers.{encodes}
+use mathlib.Core.Path.{refl}
+use Rattle.circuit.proofs.Answers.{walks}
 use borrow.Author.Needs.{needs}
 use Rattle.circuit.proofs.circuit_walk.Statement.{statement}
 use Rattle.circuit.proofs.circuit_walk.Tie as tie
@@ -23,9 +21,7 @@ same-length-2 : tie.Need-same-length-2
 same-length-2 c = search needs
 
 returns : tie.Need-returns
-returns c =
-    let w = c .before .before .before .before .before .before .before .before .walk .ensures in
-    record { place = w .place; isLoose = w .isLoose; answer = encodes answerOf (c .refused .ensures) (c .before .before .answer .given .1) (ap (λ (x : Ran). x .answer) (w .result)); cells-are = ap (λ (x : Ran). x .cells) (w .result); outputs-are = ap (λ (x : Ran). x .outputs) (w .result) }
+returns c = walks (c .before .before .before .before .before .before .before .before .walk .ensures) (c .before .before .answer .given .1) (c .refused .ensures)
 
 enum-known-answer-2 : tie.Need-enum-known-answer-2
 enum-known-answer-2 c = search needs
@@ -40,9 +36,7 @@ same-length-4 : tie.Need-same-length-4
 same-length-4 c = search needs
 
 returns-2 : tie.Need-returns-2
-returns-2 c =
-    let w = c .before .before .before .before .before .before .before .walk .ensures in
-    record { place = w .place; isLoose = w .isLoose; answer = encodes answerOf refl (c .before .answer2 .given .1) (ap (λ (x : Ran). x .answer) (w .result)); cells-are = ap (λ (x : Ran). x .cells) (w .result); outputs-are = ap (λ (x : Ran). x .outputs) (w .result) }
+returns-2 c = walks (c .before .before .before .before .before .before .before .walk .ensures) (c .before .answer2 .given .1) refl
 
 pub circuit-walk-spec : {M : Type 1} → statement M
 circuit-walk-spec =
