@@ -1,12 +1,11 @@
 -- The lines of a code: how many numbers and bytes they take.
 use Prim.Native.Nat.{ℕ, zero, suc, _+_, _-_, _*_, _≤_}
-use mathlib.Core.Path.{_≡_, refl, sym, ap, _∙_}
+use mathlib.Core.Path.{_≡_, sym, ap, _∙_}
 use mathlib.Core.List.{List, _++_}
 use native.Mathlib.Omega.{arith}
 use lib.ListN.{length, take, drop, length-append, length-drop}
 use lib.Seq.{sets, length-sets, length-take-le, take-all}
 use Rattle.flat.specs.Code.{instructionCount, outputCount, resultsAt}
-use Rattle.flat.specs.Steps.{Header}
 use Rattle.column.proofs.Stores.{sets-append}
 use Rattle.column.proofs.Writes.{Words, words-take}
 use Rattle.listing.specs.Print.{line, rows, codeText}

@@ -9,17 +9,17 @@ use lib.ListN.{length, take, drop, length-append}
 use lib.Seq.{take-at}
 use Rattle.refusal.specs.declared.Refusal.{Refusal}
 use Rattle.refusal.specs.Refusals.{numberOf, placeOf}
-use Rattle.refusal.specs.Answer.{Answer, count, refusalOf, refusedAll}
+use Rattle.refusal.specs.Answer.{Answer, count, refusalOf}
 use Rattle.column.specs.declared.ReadAnswer.{ReadAnswer}
 use Rattle.column.specs.declared.ReadAnswer.the-variants.{Nodes, Refused}
 use Rattle.column.specs.Answers.{readAnswer}
-use Rattle.column.specs.Checks.{Called, called, when, _or_, unless}
+use Rattle.column.specs.Checks.{Called, called, _or_}
 use Rattle.column.specs.Line.{lines}
 use Rattle.column.specs.File.{fileRefusal, numbers, reading}
 use Rattle.column.proofs.Refusing.{read-counted}
 use Rattle.column.proofs.Storing.{file-right, numbers-length}
 use Rattle.column.proofs.FileText.{lines-few}
-use Rattle.listing.specs.Print.{refusalText, fileText, Begins, Printed}
+use Rattle.listing.specs.Print.{refusalText, fileText, Printed}
 use Rattle.listing.specs.Steps.{Put, PrintedTable}
 use Rattle.listing.proofs.Tables.{begins-of}
 

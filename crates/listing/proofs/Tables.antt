@@ -1,5 +1,5 @@
 -- The print of a table, by what the translator answered.
-use Prim.Native.Nat.{ℕ, _+_, _*_, _≤_}
+use Prim.Native.Nat.{ℕ, _+_, _≤_}
 use mathlib.Core.Path.{_≡_, refl, sym, ap, _∙_}
 use mathlib.Core.Bool.{Bool, true, false}
 use mathlib.Core.List.{List, _++_}
@@ -23,7 +23,6 @@ use Rattle.arity.specs.Check.{checked, firstCell}
 use Rattle.arity.specs.Checked.{Checked}
 use Rattle.arity.specs.Promise.{Words}
 use Rattle.arity.proofs.Promise.{accepted-as, promise}
-use Rattle.flat.specs.Steps.{Header}
 use Rattle.flat.proofs.Decoded.{code-header}
 use Rattle.translator.specs.declared.TranslateAnswer.{TranslateAnswer}
 use Rattle.translator.specs.declared.TranslateAnswer.the-variants.{Numbers, Refused}

@@ -1,0 +1,164 @@
+//! The entries of the proved engine and of the C interpreter, over slices.
+
+unsafe extern "C" {
+    fn circuit_read(file: *const u8, n: usize, table: *mut u32, m: usize) -> u64;
+    fn circuit_check(table: *const u32, n: usize, counts: *mut u32, m: usize) -> u64;
+    fn circuit_translate(table: *const u32, n: usize, code: *mut u32, m: usize) -> u64;
+    fn circuit_load(named: u32, cells: *mut u32, n: usize) -> u64;
+}
+
+/// Entries of the engine that work a block of ticks.
+macro_rules! engine {
+    ($($name:ident)*) => {
+        unsafe extern "C" {
+            $(fn $name(
+                program: *const u32,
+                program_len: usize,
+                ticks: u32,
+                inputs: *const u32,
+                inputs_len: usize,
+                controls: *const u32,
+                controls_len: usize,
+                cells: *mut u32,
+                cells_len: usize,
+                outputs: *mut u32,
+                outputs_len: usize,
+            ) -> u64;)*
+        }
+    };
+}
+
+/// The same in C, without lengths.
+macro_rules! interpreter {
+    ($($name:ident)*) => {
+        unsafe extern "C" {
+            $(fn $name(
+                code: *const u32,
+                ticks: u32,
+                inputs: *const u32,
+                controls: *const u32,
+                cells: *mut u32,
+                outputs: *mut u32,
+            ) -> i32;)*
+        }
+    };
+}
+
+engine! { circuit_walk circuit_run_0 circuit_run_1 circuit_run_2 circuit_run_3 }
+interpreter! { run_c_0 run_c_1 run_c_2 run_c_3 }
+
+/// The count of an answer that is no refusal.
+fn count(answer: u64) -> usize {
+    assert_eq!(answer >> 32, 0, "refused, place {}", answer as i32);
+    answer as u32 as usize
+}
+
+pub struct Counts {
+    pub inputs: usize,
+    pub outputs: usize,
+    pub instructions: usize,
+    pub cells: usize,
+}
+
+/// The check's answer as it comes, for tables that may be refused.
+/// The counts are inputs, outputs, instructions and cells.
+pub fn check_raw(table: &[u32], counts: &mut [u32; 4]) -> u64 {
+    unsafe {
+        circuit_check(
+            table.as_ptr(),
+            table.len(),
+            counts.as_mut_ptr(),
+            counts.len(),
+        )
+    }
+}
+
+pub fn check(table: &[u32]) -> Counts {
+    let mut counts = [0; 4];
+    count(check_raw(table, &mut counts));
+    let [inputs, outputs, instructions, cells] = counts.map(|x| x as usize);
+    Counts {
+        inputs,
+        outputs,
+        instructions,
+        cells,
+    }
+}
+
+pub fn read(file: &[u8], table: &mut [u32]) -> usize {
+    count(unsafe { circuit_read(file.as_ptr(), file.len(), table.as_mut_ptr(), table.len()) })
+}
+
+pub fn translate(table: &[u32], code: &mut [u32]) -> usize {
+    count(unsafe { circuit_translate(table.as_ptr(), table.len(), code.as_mut_ptr(), code.len()) })
+}
+
+pub fn load(named: usize, cells: &mut [u32]) -> usize {
+    count(unsafe { circuit_load(named as u32, cells.as_mut_ptr(), cells.len()) })
+}
+
+/// What a call on a block of ticks is given beside the table or the code.
+pub struct Block<'a> {
+    pub ticks: usize,
+    pub inputs: &'a [u32],
+    pub controls: &'a [u32],
+}
+
+macro_rules! call {
+    ($name:expr, $program:expr, $block:expr, $cells:expr, $outputs:expr) => {
+        count(unsafe {
+            $name(
+                $program.as_ptr(),
+                $program.len(),
+                $block.ticks as u32,
+                $block.inputs.as_ptr(),
+                $block.inputs.len(),
+                $block.controls.as_ptr(),
+                $block.controls.len(),
+                $cells.as_mut_ptr(),
+                $cells.len(),
+                $outputs.as_mut_ptr(),
+                $outputs.len(),
+            )
+        })
+    };
+}
+
+pub fn walk(table: &[u32], block: &Block, cells: &mut [u32], outputs: &mut [u32]) -> usize {
+    call!(circuit_walk, table, block, cells, outputs)
+}
+
+/// The copy K of the runner.
+pub fn run<const K: usize>(
+    code: &[u32],
+    block: &Block,
+    cells: &mut [u32],
+    outputs: &mut [u32],
+) -> usize {
+    let entry = [circuit_run_0, circuit_run_1, circuit_run_2, circuit_run_3][K];
+    call!(entry, code, block, cells, outputs)
+}
+
+/// The copy K of the C interpreter, which tests nothing: the code has passed the engine's check.
+pub fn run_in_c<const K: usize>(
+    code: &[u32],
+    block: &Block,
+    cells: &mut [u32],
+    outputs: &mut [u32],
+) -> usize {
+    let [n, m, count] = [0, 1, 3].map(|i| code[i] as usize);
+    assert!(block.inputs.len() == block.ticks * n && block.controls.len() == 16);
+    assert!(outputs.len() >= block.ticks * m && cells.len() >= count);
+    let entry = [run_c_0, run_c_1, run_c_2, run_c_3][K];
+    let samples = unsafe {
+        entry(
+            code.as_ptr(),
+            block.ticks as u32,
+            block.inputs.as_ptr(),
+            block.controls.as_ptr(),
+            cells.as_mut_ptr(),
+            outputs.as_mut_ptr(),
+        )
+    };
+    samples as usize
+}

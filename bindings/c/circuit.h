@@ -1,0 +1,117 @@
+/* Faust circuits on 32-bit integer samples: tables, flat code, walker and runner.
+ *
+ * Link with target/staticlib/libcircuit.a (x86-64 Linux), which `rt staticlib circuit` writes. What each function
+ * does is proved, for all numbers in the buffers: the contracts are in crates/circuit/src/lib.rt.
+ *
+ * Numbers. The numbers of tables, codes, cells, inputs, controls and outputs are int32_t, since a sample is a 32-bit
+ * two's complement whole number and a child or a value in a table may be negative. The engine works on the same 32
+ * bits as words; C lets an object be reached as its signed or its unsigned type, and both are passed alike. Ticks and
+ * counts are uint32_t: a negative one is a large one, and refused as such.
+ *
+ * Buffers. A buffer is a pointer and its length in elements, a size_t. Of an empty buffer only the length is looked
+ * at: its pointer may be NULL. A buffer that is written must not overlap another buffer of the same call. A buffer
+ * longer than needed keeps its content past the needed part.
+ *
+ * Answers. Every function answers one uint64_t. The upper 32 bits are the refusal's number, 0 if there is none. The
+ * lower 32 bits are the count that the call calls for, or the refusal's place as a 32-bit two's complement number:
+ * the line or node for refusals 1 to 9, else -1. A refused call writes to no buffer.
+ *
+ * The functions keep no state of their own and allocate nothing; calls on different buffers may run at the same time.
+ */
+#ifndef CIRCUIT_H
+#define CIRCUIT_H
+
+#include <stddef.h>
+#include <stdint.h>
+
+#ifdef __cplusplus
+extern "C" {
+#endif
+
+/* Limits, and the buffer sizes that are always enough. */
+#define CIRCUIT_NODES 512          /* nodes of a table, lines of a file */
+#define CIRCUIT_TABLE_NUMBERS 1536 /* three for each node */
+#define CIRCUIT_FILE_BYTES 20992   /* 41 for each line */
+#define CIRCUIT_WIDTH 32           /* inputs, and outputs, of a node */
+#define CIRCUIT_INSTRUCTIONS 2048
+#define CIRCUIT_CODE_NUMBERS (4 + 5 * CIRCUIT_INSTRUCTIONS + CIRCUIT_WIDTH)
+#define CIRCUIT_CELLS 16384
+#define CIRCUIT_TICKS 4096  /* of one call */
+#define CIRCUIT_CONTROLS 16 /* exactly so many */
+#define CIRCUIT_COUNTS 4    /* that the check reports */
+
+/* The refusals by number. */
+enum {
+    CIRCUIT_MALFORMED_LINE = 1,         /* a line that is not 41 bytes, or a column that is no 32-bit number of the form */
+    CIRCUIT_WRONG_NODE_NUMBER = 2,      /* a node number that is not the line's place */
+    CIRCUIT_WRONG_NODE_COUNT = 3,       /* no line or node, more than 512, or numbers that are no multiple of three */
+    CIRCUIT_UNKNOWN_KIND = 4,           /* a kind that is not 1 to 12 */
+    CIRCUIT_WRONG_FIELD = 5,            /* a used field out of range, or an unused field that is not 0 */
+    CIRCUIT_WRONG_CHILD = 6,            /* a child that is negative, not lower, named twice, or taken before */
+    CIRCUIT_NO_ARITY_RULE = 7,          /* no arity rule fits */
+    CIRCUIT_TOO_WIDE = 8,               /* inputs or outputs above 32 */
+    CIRCUIT_LOOSE_NODE = 9,             /* a node other than the last that is nobody's child */
+    CIRCUIT_TOO_MANY_INSTRUCTIONS = 10, /* more than 2,048 */
+    CIRCUIT_TOO_MANY_CELLS = 11,        /* more than 16,384 */
+    CIRCUIT_SHORT_BUFFER = 12,          /* the buffer to be filled or changed is shorter than needed */
+    CIRCUIT_WRONG_CODE = 13,            /* numbers that are no flat code */
+    CIRCUIT_WRONG_BLOCK = 14            /* ticks above 4,096, inputs not ticks x n, or controls not 16 */
+};
+
+/* The refusal's number, 0 for an accepted call. */
+static inline uint32_t circuit_refusal(uint64_t answer) {
+    return (uint32_t)(answer >> 32);
+}
+
+/* The line or node of a refusal, or -1. */
+static inline int32_t circuit_place(uint64_t answer) {
+    uint32_t place = (uint32_t)answer;
+    return place <= INT32_MAX ? (int32_t)place : -1;
+}
+
+/* The count of an accepted call. */
+static inline uint32_t circuit_count(uint64_t answer) {
+    return (uint32_t)answer;
+}
+
+/* Checks a table, three numbers to a node, and writes inputs, outputs, instructions and cells into the first four of
+ * counts. Answers 4. The reported instructions and cells may lie above the limits.
+ * Refusals: 3; then 4 to 8 node by node; then 9; then 12. */
+uint64_t circuit_check(const int32_t *table, size_t table_numbers, uint32_t *counts, size_t counts_length);
+
+/* Reads a column file into a table. Answers with the count of nodes n; 3n numbers are written.
+ * Refusals: 3, 1 and 2 line by line; then 12. CIRCUIT_FILE_BYTES + 1 bytes of a longer file decide. */
+uint64_t circuit_read(const uint8_t *file, size_t file_bytes, int32_t *table, size_t table_numbers);
+
+/* Writes a table as a column file. Answers with the count of bytes, 41 a node; there is no closing 0.
+ * Refusals: 3; then 12. Of the table only the count of numbers is checked. */
+uint64_t circuit_write(const int32_t *table, size_t table_numbers, uint8_t *file, size_t file_bytes);
+
+/* Translates a table into flat code: inputs, outputs, count of instructions, count of cells; the instructions, five
+ * numbers each; the output registers. Answers with the count of numbers.
+ * Refusals: those of the table as circuit_check has them, 3 to 9; then 10, 11 and 12. */
+uint64_t circuit_translate(const int32_t *table, size_t table_numbers, int32_t *code, size_t code_numbers);
+
+/* Sets the first `named` cells to 0 and touches no others. Answers with `named`. A circuit starts from cells that were
+ * loaded with at least its count. Refusals: 11; then 12. */
+uint64_t circuit_load(uint32_t named, int32_t *cells, size_t cells_length);
+
+/* Walks a table for a block of ticks. `inputs` has the circuit's n inputs of each tick, tick after tick; `controls`
+ * holds for the whole call; the cells, at least as many as the table's count, go on from the last call; `outputs`, at
+ * least ticks x m long, takes the m outputs of each tick. Answers with the count of output samples.
+ * Refusals: those of the table, 3 to 9; then 11, 14 and 12. */
+uint64_t circuit_walk(const int32_t *table, size_t table_numbers, uint32_t ticks, const int32_t *inputs,
+                      size_t inputs_length, const int32_t *controls, size_t controls_length, int32_t *cells,
+                      size_t cells_length, int32_t *outputs, size_t outputs_length);
+
+/* Runs a flat code for a block of ticks: as circuit_walk, with n, m and the count of cells of the code's header.
+ * Any numbers may be given as code. Refusals: 13, 14 and 12. */
+uint64_t circuit_run(const int32_t *code, size_t code_numbers, uint32_t ticks, const int32_t *inputs,
+                     size_t inputs_length, const int32_t *controls, size_t controls_length, int32_t *cells,
+                     size_t cells_length, int32_t *outputs, size_t outputs_length);
+
+#ifdef __cplusplus
+}
+#endif
+
+#endif

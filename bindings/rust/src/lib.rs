@@ -1,0 +1,202 @@
+//! Faust circuits on 32-bit integer samples: node tables, column files, flat code, walker and runner.
+//!
+//! A safe wrapper of the proved engine. What each function does is proved for all numbers in the slices; the contracts
+//! are in `crates/circuit/src/lib.rt`. The numbers of tables, codes, cells and samples are `i32`, since a sample is a
+//! 32-bit two's complement whole number. A refused call writes to no slice, and a slice longer than needed keeps its
+//! content past the needed part.
+//!
+//! ```
+//! // the integrator: an addition in a loop with a cable
+//! let table = [3, 1, 0, 5, 0, 0, 11, 0, 1];
+//! let counts = circuit::check(&table)?;
+//! let mut code = [0; circuit::CODE_NUMBERS];
+//! let numbers = circuit::translate(&table, &mut code)?;
+//! let mut cells = [0; circuit::CELLS];
+//! circuit::load(counts.cells, &mut cells)?;
+//! let mut outputs = [0; 4];
+//! circuit::run(&code[..numbers], 4, &[1, 2, 3, 4], &[0; circuit::CONTROLS], &mut cells, &mut outputs)?;
+//! assert_eq!(outputs, [1, 3, 6, 10]);
+//! # Ok::<(), circuit::Refusal>(())
+//! ```
+use std::error::Error;
+use std::fmt;
+
+mod sys;
+
+/// Most nodes of a table, and lines of a file.
+pub const NODES: usize = 512;
+/// Most numbers of a table, three for each node.
+pub const TABLE_NUMBERS: usize = 3 * NODES;
+/// Most bytes of a column file, 41 for each line.
+pub const FILE_BYTES: usize = 41 * NODES;
+/// Most inputs, and most outputs, of a node.
+pub const WIDTH: usize = 32;
+/// Most instructions of a code.
+pub const INSTRUCTIONS: usize = 2048;
+/// Most numbers of a code: header, instructions, output registers.
+pub const CODE_NUMBERS: usize = 4 + 5 * INSTRUCTIONS + WIDTH;
+/// Most cells.
+pub const CELLS: usize = 16384;
+/// Most ticks of one call.
+pub const TICKS: usize = 4096;
+/// Controls of a call, exactly so many.
+pub const CONTROLS: usize = 16;
+
+/// Why a call was refused, and where.
+#[derive(Clone, Copy, Debug, PartialEq, Eq, Hash)]
+pub struct Refusal {
+    /// 1 to 14, as the document numbers them.
+    pub number: u32,
+    /// The line or node for refusals 1 to 9, else -1.
+    pub place: i32,
+}
+
+impl Refusal {
+    /// What the document means by the number.
+    pub fn meaning(&self) -> &'static str {
+        match self.number {
+            1 => "a line that is not 41 bytes, or a column that is no 32-bit number of the form",
+            2 => "a node number that is not the line's place",
+            3 => "no line or node, more than 512, or numbers that are no multiple of three",
+            4 => "a kind that is not 1 to 12",
+            5 => "a used field out of range, or an unused field that is not 0",
+            6 => "a child that is negative, not lower, named twice, or taken before",
+            7 => "no arity rule fits",
+            8 => "inputs or outputs above 32",
+            9 => "a node other than the last that is nobody's child",
+            10 => "more than 2,048 instructions",
+            11 => "cells that are not 0 to 16,384",
+            12 => "the buffer to be filled or changed is shorter than needed",
+            13 => "numbers that are no flat code",
+            14 => "ticks above 4,096, inputs that are not ticks times the circuit's, or controls that are not 16",
+            _ => "no refusal of the document",
+        }
+    }
+}
+
+impl fmt::Display for Refusal {
+    fn fmt(&self, f: &mut fmt::Formatter<'_>) -> fmt::Result {
+        match self.number {
+            1 | 2 => write!(
+                f,
+                "refusal {} at line {}: {}",
+                self.number,
+                self.place,
+                self.meaning()
+            ),
+            3 => write!(
+                f,
+                "refusal 3 at line or node {}: {}",
+                self.place,
+                self.meaning()
+            ),
+            4..=9 => write!(
+                f,
+                "refusal {} at node {}: {}",
+                self.number,
+                self.place,
+                self.meaning()
+            ),
+            _ => write!(f, "refusal {}: {}", self.number, self.meaning()),
+        }
+    }
+}
+
+impl Error for Refusal {}
+
+/// What the check reports of a table.
+#[derive(Clone, Copy, Debug, PartialEq, Eq, Hash)]
+pub struct Counts {
+    pub inputs: u32,
+    pub outputs: u32,
+    /// May lie above [`INSTRUCTIONS`].
+    pub instructions: u32,
+    /// May lie above [`CELLS`].
+    pub cells: u32,
+}
+
+/// The count, or the refusal: the refusal's number is the upper half of an answer, the count or the place the lower.
+fn decoded(answer: u64) -> Result<usize, Refusal> {
+    let lower = answer as u32;
+    match (answer >> 32) as u32 {
+        0 => Ok(lower as usize),
+        number => Err(Refusal {
+            number,
+            place: lower as i32,
+        }),
+    }
+}
+
+/// Checks a table, three numbers to a node, and reports its inputs, outputs, instructions and cells.
+///
+/// Refusals: 3; then 4 to 8 node by node; then 9.
+pub fn check(table: &[i32]) -> Result<Counts, Refusal> {
+    let mut counts = [0; 4];
+    decoded(sys::check(table, &mut counts))?;
+    let [inputs, outputs, instructions, cells] = counts;
+    Ok(Counts {
+        inputs,
+        outputs,
+        instructions,
+        cells,
+    })
+}
+
+/// Reads a column file into a table; gives the count of nodes n, of which 3n numbers are written.
+///
+/// Refusals: 3, 1 and 2 line by line; then 12.
+pub fn read(file: &[u8], table: &mut [i32]) -> Result<usize, Refusal> {
+    decoded(sys::read(file, table))
+}
+
+/// Writes a table as a column file; gives the count of bytes, 41 a node.
+///
+/// Refusals: 3; then 12. Of the table only the count of numbers is checked.
+pub fn write(table: &[i32], file: &mut [u8]) -> Result<usize, Refusal> {
+    decoded(sys::write(table, file))
+}
+
+/// Translates a table into flat code; gives the count of numbers.
+///
+/// Refusals: those of [`check`]; then 10, 11 and 12.
+pub fn translate(table: &[i32], code: &mut [i32]) -> Result<usize, Refusal> {
+    decoded(sys::translate(table, code))
+}
+
+/// Sets the first `named` cells to 0 and touches no others; gives `named`. A circuit starts from cells that were loaded with at least its count.
+///
+/// Refusals: 11; then 12.
+pub fn load(named: u32, cells: &mut [i32]) -> Result<usize, Refusal> {
+    decoded(sys::load(named, cells))
+}
+
+/// Walks a table for a block of ticks; gives the count of output samples.
+///
+/// `inputs` has the circuit's inputs of each tick, tick after tick; `controls` holds for the whole call; `cells`, at
+/// least as many as the table's count, go on from the last call; `outputs` takes the outputs of each tick.
+///
+/// Refusals: those of [`check`]; then 11, 14 and 12.
+pub fn walk(
+    table: &[i32],
+    ticks: u32,
+    inputs: &[i32],
+    controls: &[i32],
+    cells: &mut [i32],
+    outputs: &mut [i32],
+) -> Result<usize, Refusal> {
+    decoded(sys::walk(table, ticks, inputs, controls, cells, outputs))
+}
+
+/// Runs a flat code for a block of ticks, as [`walk`] does a table; any numbers may be given as code.
+///
+/// Refusals: 13, 14 and 12.
+pub fn run(
+    code: &[i32],
+    ticks: u32,
+    inputs: &[i32],
+    controls: &[i32],
+    cells: &mut [i32],
+    outputs: &mut [i32],
+) -> Result<usize, Refusal> {
+    decoded(sys::run(code, ticks, inputs, controls, cells, outputs))
+}

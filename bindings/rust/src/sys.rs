@@ -1,0 +1,115 @@
+//! The exported functions of the engine. A slice is passed as its pointer and its length in elements.
+//!
+//! Each call is sound for every slice: the functions ask nothing of their arguments, read and write only within the
+//! lengths given, and return. `u32` there is `i32` here, which has the same size, alignment and bits.
+
+extern "C" {
+    fn circuit_check(table: *const i32, numbers: usize, counts: *mut u32, length: usize) -> u64;
+    fn circuit_read(file: *const u8, bytes: usize, table: *mut i32, numbers: usize) -> u64;
+    fn circuit_write(table: *const i32, numbers: usize, file: *mut u8, bytes: usize) -> u64;
+    fn circuit_translate(table: *const i32, numbers: usize, code: *mut i32, length: usize) -> u64;
+    fn circuit_load(named: u32, cells: *mut i32, length: usize) -> u64;
+    fn circuit_walk(
+        table: *const i32,
+        numbers: usize,
+        ticks: u32,
+        inputs: *const i32,
+        inputs_length: usize,
+        controls: *const i32,
+        controls_length: usize,
+        cells: *mut i32,
+        cells_length: usize,
+        outputs: *mut i32,
+        outputs_length: usize,
+    ) -> u64;
+    fn circuit_run(
+        code: *const i32,
+        numbers: usize,
+        ticks: u32,
+        inputs: *const i32,
+        inputs_length: usize,
+        controls: *const i32,
+        controls_length: usize,
+        cells: *mut i32,
+        cells_length: usize,
+        outputs: *mut i32,
+        outputs_length: usize,
+    ) -> u64;
+}
+
+pub fn check(table: &[i32], counts: &mut [u32; 4]) -> u64 {
+    unsafe {
+        circuit_check(
+            table.as_ptr(),
+            table.len(),
+            counts.as_mut_ptr(),
+            counts.len(),
+        )
+    }
+}
+
+pub fn read(file: &[u8], table: &mut [i32]) -> u64 {
+    unsafe { circuit_read(file.as_ptr(), file.len(), table.as_mut_ptr(), table.len()) }
+}
+
+pub fn write(table: &[i32], file: &mut [u8]) -> u64 {
+    unsafe { circuit_write(table.as_ptr(), table.len(), file.as_mut_ptr(), file.len()) }
+}
+
+pub fn translate(table: &[i32], code: &mut [i32]) -> u64 {
+    unsafe { circuit_translate(table.as_ptr(), table.len(), code.as_mut_ptr(), code.len()) }
+}
+
+pub fn load(named: u32, cells: &mut [i32]) -> u64 {
+    unsafe { circuit_load(named, cells.as_mut_ptr(), cells.len()) }
+}
+
+pub fn walk(
+    table: &[i32],
+    ticks: u32,
+    inputs: &[i32],
+    controls: &[i32],
+    cells: &mut [i32],
+    outputs: &mut [i32],
+) -> u64 {
+    unsafe {
+        circuit_walk(
+            table.as_ptr(),
+            table.len(),
+            ticks,
+            inputs.as_ptr(),
+            inputs.len(),
+            controls.as_ptr(),
+            controls.len(),
+            cells.as_mut_ptr(),
+            cells.len(),
+            outputs.as_mut_ptr(),
+            outputs.len(),
+        )
+    }
+}
+
+pub fn run(
+    code: &[i32],
+    ticks: u32,
+    inputs: &[i32],
+    controls: &[i32],
+    cells: &mut [i32],
+    outputs: &mut [i32],
+) -> u64 {
+    unsafe {
+        circuit_run(
+            code.as_ptr(),
+            code.len(),
+            ticks,
+            inputs.as_ptr(),
+            inputs.len(),
+            controls.as_ptr(),
+            controls.len(),
+            cells.as_mut_ptr(),
+            cells.len(),
+            outputs.as_mut_ptr(),
+            outputs.len(),
+        )
+    }
+}

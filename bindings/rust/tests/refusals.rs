@@ -1,0 +1,186 @@
+//! Every refusal by number and place; a refused call writes nothing; empty slices.
+use circuit::{Refusal, CELLS, CODE_NUMBERS, CONTROLS};
+
+const INTEGRATOR: [i32; 9] = [3, 1, 0, 5, 0, 0, 11, 0, 1];
+const SILENT: [i32; CONTROLS] = [0; CONTROLS];
+
+fn refusal<T>(number: u32, place: i32) -> Result<T, Refusal> {
+    Err(Refusal { number, place })
+}
+
+fn line(number: &str, kind: &str, first: &str, second: &str) -> String {
+    format!("{number:>4}{kind:>12}{first:>12}{second:>12}\n")
+}
+
+/// The reader's answer to a refused file.
+fn unread(file: &str) -> Result<usize, Refusal> {
+    let mut table = [9; 12];
+    let answer = circuit::read(file.as_bytes(), &mut table);
+    assert_eq!(table, [9; 12]);
+    answer
+}
+
+/// The answer of check, translator and walker to a refused table.
+fn unchecked(nodes: &[[i32; 3]]) -> Result<usize, Refusal> {
+    let table = nodes.concat();
+    let (mut code, mut cells, mut outputs) = ([9; 99], [9; 99], [9; 99]);
+    let answer = circuit::translate(&table, &mut code);
+    assert_eq!(circuit::check(&table).map(|_| 0), answer);
+    assert_eq!(
+        circuit::walk(&table, 0, &[], &SILENT, &mut cells, &mut outputs),
+        answer
+    );
+    assert_eq!((code, cells, outputs), ([9; 99], [9; 99], [9; 99]));
+    answer
+}
+
+#[test]
+fn lines() {
+    let good = line("0", "5", "0", "0");
+    assert_eq!(unread(&(good.clone() + "   1")), refusal(1, 1));
+    assert_eq!(unread(&line("0", "05", "0", "0")), refusal(1, 0));
+    assert_eq!(unread(&line("0", "1", "2147483648", "0")), refusal(1, 0));
+    assert_eq!(
+        unread(&(good.clone() + &line("2", "5", "0", "0"))),
+        refusal(2, 1)
+    );
+    assert_eq!(unread(&line("-1", "x", "0", "0")), refusal(2, 0));
+    assert_eq!(unread(""), refusal(3, 0));
+    assert_eq!(unread(&good.repeat(513)), refusal(2, 1));
+}
+
+#[test]
+fn nodes() {
+    assert_eq!(unchecked(&[]), refusal(3, 0));
+    assert_eq!(unchecked(&[[5, 0, 0]; 513]), refusal(3, 512));
+    assert_eq!(circuit::check(&INTEGRATOR[..8]), refusal(3, 0));
+    assert_eq!(unchecked(&[[5, 0, 0], [13, 0, 0]]), refusal(4, 1));
+    assert_eq!(unchecked(&[[-1, 0, 0]]), refusal(4, 0));
+    assert_eq!(unchecked(&[[2, 16, 0]]), refusal(5, 0));
+    assert_eq!(unchecked(&[[3, 10, 0]]), refusal(5, 0));
+    assert_eq!(unchecked(&[[4, 4096, 0]]), refusal(5, 0));
+    assert_eq!(unchecked(&[[5, 0, 1]]), refusal(5, 0));
+    assert_eq!(unchecked(&[[5, 0, 0], [12, 1, 0]]), refusal(6, 1));
+    assert_eq!(unchecked(&[[5, 0, 0], [12, -1, 0]]), refusal(6, 1));
+    assert_eq!(unchecked(&[[5, 0, 0], [7, 0, 0]]), refusal(6, 1));
+    assert_eq!(
+        unchecked(&[[5, 0, 0], [12, 0, 0], [12, 0, 0]]),
+        refusal(6, 2)
+    );
+    assert_eq!(unchecked(&[[5, 0, 0], [3, 1, 0], [7, 0, 1]]), refusal(7, 2));
+    assert_eq!(unchecked(&[[5, 0, 0], [5, 0, 0]]), refusal(9, 0));
+}
+
+/// A parallel of 32 numbers under so many ondemands, each of which adds an input.
+fn nested(depth: i32) -> Vec<[i32; 3]> {
+    let mut nodes = vec![[1, 7, 0]];
+    while nodes.len() < 63 {
+        let last = nodes.len() as i32 - 1;
+        nodes.push([1, 7, 0]);
+        nodes.push([8, last, last + 1]);
+    }
+    (0..depth).for_each(|k| nodes.push([12, 62 + k, 0]));
+    nodes
+}
+
+#[test]
+fn widths_and_sizes() {
+    let (mut code, mut cells) = ([9; CODE_NUMBERS], [9; CELLS]);
+    assert_eq!(
+        circuit::translate(&nested(31).concat(), &mut code),
+        Ok(4 + 5 * (32 + 31 * 65) + 32)
+    );
+    code = [9; CODE_NUMBERS];
+    assert_eq!(
+        circuit::translate(&nested(32).concat(), &mut code),
+        refusal(10, -1)
+    );
+    assert_eq!(unchecked(&nested(33)), refusal(8, 95));
+    assert_eq!(circuit::load(16385, &mut cells), refusal(11, -1));
+    assert_eq!((code, cells), ([9; CODE_NUMBERS], [9; CELLS]));
+    assert_eq!(circuit::load(16384, &mut cells), Ok(16384));
+    assert_eq!(cells, [0; CELLS]);
+}
+
+#[test]
+fn codes_and_blocks() {
+    let mut code = [0; 20];
+    assert_eq!(circuit::translate(&INTEGRATOR, &mut code), Ok(20));
+    let run =
+        |code: &[i32], ticks, inputs: &[i32], controls: &[i32], cells: usize, outputs: usize| {
+            let (mut lent, mut written) = ([9; 3], [9; 3]);
+            let answer = circuit::run(
+                code,
+                ticks,
+                inputs,
+                controls,
+                &mut lent[..cells],
+                &mut written[..outputs],
+            );
+            assert!(answer.is_ok() || (lent, written) == ([9; 3], [9; 3]));
+            answer
+        };
+    assert_eq!(run(&code[..19], 2, &[1, 2], &SILENT, 1, 2), refusal(13, -1));
+    assert_eq!(run(&code, 4097, &[1, 2], &SILENT, 1, 2), refusal(14, -1));
+    assert_eq!(run(&code, 2, &[1], &SILENT, 1, 2), refusal(14, -1));
+    assert_eq!(run(&code, 2, &[1, 2], &SILENT[1..], 0, 0), refusal(14, -1));
+    assert_eq!(run(&code, 2, &[1, 2], &SILENT, 0, 2), refusal(12, -1));
+    assert_eq!(run(&code, 2, &[1, 2], &SILENT, 1, 1), refusal(12, -1));
+    assert_eq!(run(&code, 2, &[1, 2], &SILENT, 3, 3), Ok(2));
+}
+
+#[test]
+fn short_buffers() {
+    let file = line("0", "5", "0", "0");
+    assert_eq!(circuit::read(file.as_bytes(), &mut [9; 2]), refusal(12, -1));
+    assert_eq!(circuit::write(&INTEGRATOR, &mut [9; 122]), refusal(12, -1));
+    assert_eq!(
+        circuit::translate(&INTEGRATOR, &mut [9; 19]),
+        refusal(12, -1)
+    );
+    assert_eq!(circuit::load(3, &mut [9; 2]), refusal(12, -1));
+    assert_eq!(
+        circuit::walk(&INTEGRATOR, 2, &[1, 2], &SILENT, &mut [9], &mut [9]),
+        refusal(12, -1)
+    );
+}
+
+#[test]
+fn empty_slices() {
+    let number = [1, 7, 0];
+    assert_eq!(circuit::check(&[]), refusal(3, 0));
+    assert_eq!(circuit::read(&[], &mut []), refusal(3, 0));
+    assert_eq!(circuit::write(&[], &mut []), refusal(3, 0));
+    assert_eq!(circuit::write(&number, &mut []), refusal(12, -1));
+    assert_eq!(circuit::translate(&[], &mut []), refusal(3, 0));
+    assert_eq!(circuit::translate(&number, &mut []), refusal(12, -1));
+    assert_eq!(circuit::load(0, &mut []), Ok(0));
+    assert_eq!(circuit::load(1, &mut []), refusal(12, -1));
+    assert_eq!(
+        circuit::walk(&number, 0, &[], &SILENT, &mut [], &mut []),
+        Ok(0)
+    );
+    assert_eq!(
+        circuit::walk(&[], 0, &[], &[], &mut [], &mut []),
+        refusal(3, 0)
+    );
+    assert_eq!(
+        circuit::run(&[0, 0, 0, 0], 0, &[], &SILENT, &mut [], &mut []),
+        Ok(0)
+    );
+    assert_eq!(
+        circuit::run(&[], 0, &[], &[], &mut [], &mut []),
+        refusal(13, -1)
+    );
+}
+
+#[test]
+fn printed() {
+    let printed = |number, place| Refusal { number, place }.to_string();
+    assert_eq!(printed(7, 2), "refusal 7 at node 2: no arity rule fits");
+    assert_eq!(
+        printed(2, 1),
+        "refusal 2 at line 1: a node number that is not the line's place"
+    );
+    assert_eq!(printed(13, -1), "refusal 13: numbers that are no flat code");
+}

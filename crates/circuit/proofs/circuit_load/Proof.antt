@@ -1,0 +1,48 @@
+-- `circuit::circuit_load` meets its contract.
+use mathlib.Core.Path.{refl}
+use Rattle.cells.specs.Load.{answerOf}
+use Rattle.circuit.proofs.Answers.{loaded-gives}
+use borrow.Author.Needs.{needs}
+use Rattle.circuit.proofs.circuit_load.Statement.{statement}
+use Rattle.circuit.proofs.circuit_load.Tie as tie
+
+load-requires : tie.Need-load-requires
+load-requires c κs = search needs
+
+enum-known-answer : tie.Need-enum-known-answer
+enum-known-answer c = search needs
+
+refused-requires : tie.Need-refused-requires
+refused-requires c κs = search needs
+
+same-length : tie.Need-same-length
+same-length c = search needs
+
+returns : tie.Need-returns
+returns c = loaded-gives answerOf (c .refused .ensures) (c .before .before .answer .given .1) _ (c .before .before .before .before .before .before .load .ensures)
+
+enum-known-answer-2 : tie.Need-enum-known-answer-2
+enum-known-answer-2 c = search needs
+
+cast-result : tie.Need-cast-result
+cast-result c = search needs
+
+same-length-2 : tie.Need-same-length-2
+same-length-2 c = search needs
+
+returns-2 : tie.Need-returns-2
+returns-2 c = loaded-gives answerOf refl (c .before .answer2 .given .1) _ (c .before .before .before .before .before .load .ensures)
+
+pub circuit-load-spec : {M : Type 1} → statement M
+circuit-load-spec =
+    tie.close
+    (tie.spec
+    load-requires
+    enum-known-answer
+    refused-requires
+    same-length
+    returns
+    enum-known-answer-2
+    cast-result
+    same-length-2
+    returns-2)

@@ -1,0 +1,48 @@
+-- `circuit::circuit_read` meets its contract.
+use mathlib.Core.Path.{refl}
+use Rattle.column.specs.Answers.{readAnswer}
+use Rattle.circuit.proofs.Answers.{called-gives}
+use borrow.Author.Needs.{needs}
+use Rattle.circuit.proofs.circuit_read.Statement.{statement}
+use Rattle.circuit.proofs.circuit_read.Tie as tie
+
+read-requires : tie.Need-read-requires
+read-requires c κs = search needs
+
+enum-known-answer : tie.Need-enum-known-answer
+enum-known-answer c = search needs
+
+refused-requires : tie.Need-refused-requires
+refused-requires c κs = search needs
+
+same-length : tie.Need-same-length
+same-length c = search needs
+
+returns : tie.Need-returns
+returns c = called-gives readAnswer (c .refused .ensures) (c .before .before .answer .given .1) _ (c .before .before .before .before .before .before .read .ensures)
+
+enum-known-answer-2 : tie.Need-enum-known-answer-2
+enum-known-answer-2 c = search needs
+
+cast-result : tie.Need-cast-result
+cast-result c = search needs
+
+same-length-2 : tie.Need-same-length-2
+same-length-2 c = search needs
+
+returns-2 : tie.Need-returns-2
+returns-2 c = called-gives readAnswer refl (c .before .answer2 .given .1) _ (c .before .before .before .before .before .read .ensures)
+
+pub circuit-read-spec : {M : Type 1} → statement M
+circuit-read-spec =
+    tie.close
+    (tie.spec
+    read-requires
+    enum-known-answer
+    refused-requires
+    same-length
+    returns
+    enum-known-answer-2
+    cast-result
+    same-length-2
+    returns-2)

@@ -1,0 +1,47 @@
+-- `circuit::circuit_translate` meets its contract.
+use mathlib.Core.Path.{refl}
+use Rattle.circuit.proofs.Answers.{translates}
+use borrow.Author.Needs.{needs}
+use Rattle.circuit.proofs.circuit_translate.Statement.{statement}
+use Rattle.circuit.proofs.circuit_translate.Tie as tie
+
+translate-requires : tie.Need-translate-requires
+translate-requires c κs = search needs
+
+enum-known-answer : tie.Need-enum-known-answer
+enum-known-answer c = search needs
+
+refused-requires : tie.Need-refused-requires
+refused-requires c κs = search needs
+
+same-length : tie.Need-same-length
+same-length c = search needs
+
+returns : tie.Need-returns
+returns c = translates (c .before .before .before .before .before .before .translate .ensures) (c .before .before .answer .given .1) (c .refused .ensures)
+
+enum-known-answer-2 : tie.Need-enum-known-answer-2
+enum-known-answer-2 c = search needs
+
+cast-result : tie.Need-cast-result
+cast-result c = search needs
+
+same-length-2 : tie.Need-same-length-2
+same-length-2 c = search needs
+
+returns-2 : tie.Need-returns-2
+returns-2 c = translates (c .before .before .before .before .before .translate .ensures) (c .before .answer2 .given .1) refl
+
+pub circuit-translate-spec : {M : Type 1} → statement M
+circuit-translate-spec =
+    tie.close
+    (tie.spec
+    translate-requires
+    enum-known-answer
+    refused-requires
+    same-length
+    returns
+    enum-known-answer-2
+    cast-result
+    same-length-2
+    returns-2)

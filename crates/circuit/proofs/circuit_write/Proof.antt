@@ -1,0 +1,48 @@
+-- `circuit::circuit_write` meets its contract.
+use mathlib.Core.Path.{refl}
+use Rattle.column.specs.Answers.{writeAnswer}
+use Rattle.circuit.proofs.Answers.{called-gives}
+use borrow.Author.Needs.{needs}
+use Rattle.circuit.proofs.circuit_write.Statement.{statement}
+use Rattle.circuit.proofs.circuit_write.Tie as tie
+
+write-requires : tie.Need-write-requires
+write-requires c κs = search needs
+
+enum-known-answer : tie.Need-enum-known-answer
+enum-known-answer c = search needs
+
+refused-requires : tie.Need-refused-requires
+refused-requires c κs = search needs
+
+same-length : tie.Need-same-length
+same-length c = search needs
+
+returns : tie.Need-returns
+returns c = called-gives writeAnswer (c .refused .ensures) (c .before .before .answer .given .1) _ (c .before .before .before .before .before .before .write .ensures)
+
+enum-known-answer-2 : tie.Need-enum-known-answer-2
+enum-known-answer-2 c = search needs
+
+cast-result : tie.Need-cast-result
+cast-result c = search needs
+
+same-length-2 : tie.Need-same-length-2
+same-length-2 c = search needs
+
+returns-2 : tie.Need-returns-2
+returns-2 c = called-gives writeAnswer refl (c .before .answer2 .given .1) _ (c .before .before .before .before .before .write .ensures)
+
+pub circuit-write-spec : {M : Type 1} → statement M
+circuit-write-spec =
+    tie.close
+    (tie.spec
+    write-requires
+    enum-known-answer
+    refused-requires
+    same-length
+    returns
+    enum-known-answer-2
+    cast-result
+    same-length-2
+    returns-2)

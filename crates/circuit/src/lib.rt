@@ -1,0 +1,144 @@
+// The engine for other languages: every entry over slices, its answer in one number.
+// No entry asks anything of its caller, so that no misuse of the numbers lent is undefined.
+use arity::CheckAnswer;
+use cells::LoadAnswer;
+use column::ReadAnswer;
+use column::WriteAnswer;
+use flat::RunAnswer;
+use refusal::Refusal;
+use translator::TranslateAnswer;
+use walker::WalkAnswer;
+ghost use mathlib.Core.Path.{_≡_};
+ghost use Rattle.refusal.specs.Answer.{refusalOf};
+ghost use Rattle.cells.specs.Load.{loaded};
+ghost use Rattle.column.specs.File.{reading, writing};
+ghost use Rattle.flat.specs.Run.{ran};
+ghost use Rattle.circuit.specs.Encoded.{encoded};
+ghost use Rattle.circuit.specs.Calls.{Checks, Translates, Walks};
+
+// The upper half of an answer begins here.
+const UPPER: u64 = 4294967296;
+
+// The answer of a refusal.
+fn refused(refusal: Refusal) -> u64
+    ensures { λ r. ⌜ r ≡ encoded (refusalOf refusal) ⌝ }
+{
+    refusal::number(refusal) as u64 * UPPER + refusal::place_word(refusal) as u64
+}
+
+// The check: inputs, outputs, instructions and cells into the first four of counts.
+#[no_mangle]
+pub extern "C" fn circuit_check(table: &[u32], counts: &mut [u32]) -> u64
+    ensures { λ r. ⌜ Checks (now (table .entry)) (now (counts .entry)) r (now (counts .exit)) ⌝ }
+{
+    let answer = arity::check(table);
+    match answer {
+        CheckAnswer::Refused(r) => return refused(r),
+        CheckAnswer::Accepted {
+            inputs: n,
+            outputs: m,
+            instructions: c,
+            cells: d,
+        } => {
+            if counts.len() < 4 {
+                return refused(Refusal::ShortBuffer);
+            }
+            counts[0] = n;
+            counts[1] = m;
+            counts[2] = c;
+            counts[3] = d;
+            return 4;
+        }
+    }
+}
+
+// The reader: a column file into a table.
+#[no_mangle]
+pub extern "C" fn circuit_read(file: &[u8], table: &mut [u32]) -> u64
+    ensures answer { λ r. ⌜ r ≡ encoded (reading (now (file .entry)) (now (table .entry)) .answer) ⌝ }
+    ensures table { λ _. ⌜ now (table .exit) ≡ reading (now (file .entry)) (now (table .entry)) .buffer ⌝ }
+{
+    let answer = column::read(file, table);
+    match answer {
+        ReadAnswer::Refused(r) => return refused(r),
+        ReadAnswer::Nodes(n) => return n as u64,
+    }
+}
+
+// The writer: a table into a column file.
+#[no_mangle]
+pub extern "C" fn circuit_write(table: &[u32], file: &mut [u8]) -> u64
+    ensures answer { λ r. ⌜ r ≡ encoded (writing (now (table .entry)) (now (file .entry)) .answer) ⌝ }
+    ensures file { λ _. ⌜ now (file .exit) ≡ writing (now (table .entry)) (now (file .entry)) .buffer ⌝ }
+{
+    let answer = column::write(table, file);
+    match answer {
+        WriteAnswer::Refused(r) => return refused(r),
+        WriteAnswer::Bytes(n) => return n as u64,
+    }
+}
+
+// The translator: a table into flat code.
+#[no_mangle]
+pub extern "C" fn circuit_translate(table: &[u32], code: &mut [u32]) -> u64
+    ensures { λ r. ⌜ Translates (now (table .entry)) (now (code .entry)) r (now (code .exit)) ⌝ }
+{
+    let answer = translator::translate(table, code);
+    match answer {
+        TranslateAnswer::Refused(r) => return refused(r),
+        TranslateAnswer::Numbers(n) => return n as u64,
+    }
+}
+
+// The load: the named count of cells is set to 0.
+#[no_mangle]
+pub extern "C" fn circuit_load(named: u32, cells: &mut [u32]) -> u64
+    ensures answer { λ r. ⌜ r ≡ encoded (loaded named (now (cells .entry)) .answer) ⌝ }
+    ensures cells { λ _. ⌜ now (cells .exit) ≡ loaded named (now (cells .entry)) .cells ⌝ }
+{
+    let answer = cells::load(named, cells);
+    match answer {
+        LoadAnswer::Refused(r) => return refused(r),
+        LoadAnswer::Cells(n) => return n as u64,
+    }
+}
+
+// The walker: a block of ticks of a table.
+#[no_mangle]
+pub extern "C" fn circuit_walk(
+    table: &[u32],
+    ticks: u32,
+    inputs: &[u32],
+    controls: &[u32],
+    cells: &mut [u32],
+    outputs: &mut [u32],
+) -> u64
+    ensures { λ r. ⌜ Walks (now (table .entry)) ticks (now (inputs .entry)) (now (controls .entry)) (now (cells .entry)) (now (outputs .entry)) r (now (cells .exit)) (now (outputs .exit)) ⌝ }
+{
+    let answer = walker::walk(table, ticks, inputs, controls, cells, outputs);
+    match answer {
+        WalkAnswer::Refused(r) => return refused(r),
+        WalkAnswer::Samples(n) => return n as u64,
+    }
+}
+
+// The runner: a block of ticks of a flat code.
+#[no_mangle]
+pub extern "C" fn circuit_run(
+    code: &[u32],
+    ticks: u32,
+    inputs: &[u32],
+    controls: &[u32],
+    cells: &mut [u32],
+    outputs: &mut [u32],
+) -> u64
+    ensures answer { λ r. ⌜ r ≡ encoded (ran (now (code .entry)) ticks (now (inputs .entry)) (now (controls .entry)) (now (cells .entry)) (now (outputs .entry)) .answer) ⌝ }
+    ensures cells { λ _. ⌜ now (cells .exit) ≡ ran (now (code .entry)) ticks (now (inputs .entry)) (now (controls .entry)) (now (cells .entry)) (now (outputs .entry)) .cells ⌝ }
+    ensures outputs { λ _. ⌜ now (outputs .exit) ≡ ran (now (code .entry)) ticks (now (inputs .entry)) (now (controls .entry)) (now (cells .entry)) (now (outputs .entry)) .outputs ⌝ }
+{
+    let answer = flat::run(code, ticks, inputs, controls, cells, outputs);
+    match answer {
+        RunAnswer::Refused(r) => return refused(r),
+        RunAnswer::Samples(n) => return n as u64,
+    }
+}
