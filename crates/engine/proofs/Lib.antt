@@ -1,3 +1,2 @@
 pub mod Alike
 pub mod Demand3
-pub mod Delivered

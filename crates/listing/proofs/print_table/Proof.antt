@@ -3,7 +3,7 @@ use mathlib.Core.Path.{sym}
 use native.Mathlib.Omega.{arith}
 use borrow.Author.Needs.{needs}
 use lib.Seq.{length-take-le}
-use Rattle.listing.proofs.Tables.{is-delivered, is-listable, table-refused, table-listed}
+use Rattle.listing.proofs.Tables.{is-within, is-listable, table-refused, table-listed}
 use Rattle.listing.proofs.print_table.Statement.{statement}
 use Rattle.listing.proofs.print_table.Tie as tie
 
@@ -26,10 +26,10 @@ index-requires : tie.Need-index-requires
 index-requires c κs = search needs
 
 array-share-prefix-code : tie.Need-array-share-prefix-code
-array-share-prefix-code c = omega (arith, c .index .ensures, is-delivered (c .before .before .before .before .before .translate .ensures) _ (c .before .before .answer2 .given .1) .counted, is-delivered (c .before .before .before .before .before .translate .ensures) _ (c .before .before .answer2 .given .1) .within, c .before .before .before .before .before .translate .kept .1 .0)
+array-share-prefix-code c = omega (arith, c .index .ensures, is-within (c .before .before .before .before .before .translate .ensures) _ (c .before .before .answer2 .given .1), c .before .before .before .before .before .translate .kept .1 .0)
 
 slice-aggregate-put-code : tie.Need-slice-aggregate-put-code
-slice-aggregate-put-code c = sym (length-take-le _ _ (omega (arith, c .before .index .ensures, is-delivered (c .before .before .before .before .before .before .translate .ensures) _ (c .before .before .before .answer2 .given .1) .counted, is-delivered (c .before .before .before .before .before .before .translate .ensures) _ (c .before .before .before .answer2 .given .1) .within, c .before .before .before .before .before .before .translate .kept .1 .0)))
+slice-aggregate-put-code c = sym (length-take-le _ _ (omega (arith, c .before .index .ensures, is-within (c .before .before .before .before .before .before .translate .ensures) _ (c .before .before .before .answer2 .given .1), c .before .before .before .before .before .before .translate .kept .1 .0)))
 
 put-code-requires : tie.Need-put-code-requires
 put-code-requires c κs = rw (c .before .before .index .ensures) (is-listable (c .before .before .before .before .before .before .before .translate .ensures) _ (c .before .before .before .before .answer2 .given .1) (λ k. c .before .before .before .before .before .before .before .before .before .before .shared-slice-known .given k .fits) _ (c .before .before .before .before .before .before .before .before .before .before .before .pre))
