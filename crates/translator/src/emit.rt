@@ -1,11 +1,9 @@
 // The translation of a node.
-use crate::parts::first_child;
 use crate::parts::put_closing;
 use crate::parts::put_holding;
 use crate::parts::put_middle;
 use crate::parts::put_opening;
 use crate::parts::put_skip;
-use crate::parts::second_child;
 use crate::place::Progress;
 use crate::place::push_one;
 use arity::fields::first_of;
@@ -14,6 +12,8 @@ use arity::rows::inputs_of;
 use arity::rows::row_at;
 use beam::entry;
 use beam::one;
+use walker::wiring::first_child;
+use walker::wiring::second_child;
 use word::index;
 use word::operands;
 ghost use mathlib.Core.Path.{_≡_};

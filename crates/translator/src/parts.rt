@@ -13,34 +13,11 @@ use arity::rows::outputs_of;
 use arity::rows::row_at;
 use beam::after;
 use beam::joined;
-use beam::repeated;
+use walker::wiring::second_input;
 use word::index;
-ghost use mathlib.Core.Path.{_≡_};
-ghost use Rattle.arity.specs.Table.{kindAt};
-ghost use Rattle.walker.specs.Ready.{Joins, Demands, firstChild, secondChild, SecondGiven};
+ghost use Rattle.walker.specs.Ready.{Joins, Demands};
 ghost use Rattle.translator.specs.Writing.{Room};
 ghost use Rattle.translator.specs.Parts.{Translatable, openingOf, middleOf, closingOf, skippingOf, holdingOf, Opens, Links, Closes, Skips, Holds};
-
-// The left child, in a recursion the right one.
-pub fn first_child(table: &[u32], node: usize) -> usize
-    requires { ⌜ Joins (now table) node ⌝ }
-    ensures { λ r. ⌜ r ≡ firstChild (now (table .entry)) node ⌝ }
-{
-    if kind_of(table, node) == 11 {
-        return index(second_of(table, node));
-    }
-    index(first_of(table, node))
-}
-
-pub fn second_child(table: &[u32], node: usize) -> usize
-    requires { ⌜ Joins (now table) node ⌝ }
-    ensures { λ r. ⌜ r ≡ secondChild (now (table .entry)) node ⌝ }
-{
-    if kind_of(table, node) == 11 {
-        return index(first_of(table, node));
-    }
-    index(second_of(table, node))
-}
 
 // Before the first side: a recursion's reads.
 pub fn put_opening(
@@ -67,34 +44,6 @@ pub fn put_opening(
         };
     }
     p
-}
-
-// The registers of the second side, where no addition makes them: the node's are xs, the first side's results are ys.
-fn second_input(
-    table: &[u32],
-    shape: &[u32; 2048],
-    node: usize,
-    xs: [u32; 32],
-    ys: [u32; 32],
-) -> [u32; 32]
-    requires { ⌜ Translatable (now table) (now shape) ⌝ }
-    requires { ⌜ Joins (now table) node ⌝ }
-    requires { ⌜ (kindAt (now table) node ≡ 10 → ⊥) ⌝ }
-    ensures { λ r. ⌜ SecondGiven (now (table .entry)) node xs ys r ⌝ }
-{
-    let kind = kind_of(table, node);
-    let left = index(first_of(table, node));
-    let right = index(second_of(table, node));
-    if kind == 7 {
-        return ys;
-    }
-    if kind == 8 {
-        return after(xs, inputs_of(shape, left));
-    }
-    if kind == 9 {
-        return repeated(ys, outputs_of(shape, left), inputs_of(shape, right));
-    }
-    joined(ys, outputs_of(shape, right), xs, inputs_of(shape, node))
 }
 
 // Between the sides: a merge's additions. The first side left q.

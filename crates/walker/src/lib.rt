@@ -1,6 +1,6 @@
 // The walker: a circuit worked tick by tick on its cells.
 mod step;
-mod wiring;
+pub mod wiring;
 
 use arity::CheckAnswer;
 use arity::survey;

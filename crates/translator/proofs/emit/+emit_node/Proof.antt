@@ -15,13 +15,13 @@ use Rattle.translator.proofs.emit.+emit_node.Lts-emit_node as lts
 use Rattle.arity.proofs.fields.first_of.Reads as first-of
 use Rattle.arity.proofs.fields.kind_of.Reads as kind-of
 use Rattle.translator.proofs.emit.emit_leaf.Reads as emit-leaf
-use Rattle.translator.proofs.parts.first_child.Reads as first-child
+use Rattle.walker.proofs.wiring.first_child.Reads as first-child
 use Rattle.translator.proofs.parts.put_closing.Reads as put-closing
 use Rattle.translator.proofs.parts.put_holding.Reads as put-holding
 use Rattle.translator.proofs.parts.put_middle.Reads as put-middle
 use Rattle.translator.proofs.parts.put_opening.Reads as put-opening
 use Rattle.translator.proofs.parts.put_skip.Reads as put-skip
-use Rattle.translator.proofs.parts.second_child.Reads as second-child
+use Rattle.walker.proofs.wiring.second_child.Reads as second-child
 use Rattle.word.proofs.index.Reads as index
 use Rattle.translator.proofs.emit.+emit_node.{statement}
 use Rattle.translator.proofs.emit.+emit_node.Tie.{close}

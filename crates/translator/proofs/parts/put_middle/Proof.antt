@@ -43,7 +43,7 @@ returns c = let e = sym (c .before .before .before .before .before .before .befo
     links-merge (c .before .before .before .before .before .before .before .before .before .before .before .before .before .before .pre .0) (c .before .before .before .before .before .before .before .before .before .before .before .before .before .before .pre .1 .0) e m b (c .before .before .put-merges .ensures)
 
 second-input-requires : tie.Need-second-input-requires
-second-input-requires c κs = (c .before .before .before .before .before .before .before .pre .0, (c .before .before .before .before .before .before .before .pre .1 .0, λ e. c .before .before .before .if1 .left (c .before .before .before .before .kind-of .ensures ∙ e)))
+second-input-requires c κs = (c .before .before .before .before .before .before .before .pre .0 .ready, c .before .before .before .before .before .before .before .pre .1 .0)
 
 returns-2 : tie.Need-returns-2
 returns-2 c = links-other (c .before .before .before .before .before .before .before .before .pre .0) (c .before .before .before .before .before .before .before .before .pre .1 .0) (λ e. c .before .before .before .before .if1 .left (c .before .before .before .before .before .kind-of .ensures ∙ e)) (c .second-input .ensures)
