@@ -10,12 +10,21 @@ fn stored(program: &str, file: &str) -> Vec<u8> {
     read(&path).unwrap_or_else(|error| panic!("{path}: {error}"))
 }
 
-/// The cases written by hand: the oracle expects what the proved entries must print.
+/// Cases written by hand: the oracle expects what the proved entries must print.
+fn holds(program: &str) {
+    let commands = parse(&stored(program, "stdin"));
+    assert!(!is_open(&commands));
+    assert!(expected(&commands).into_bytes() == stored(program, "stdout"));
+}
+
 #[test]
 fn samples() {
-    let commands = parse(&stored("samples", "stdin"));
-    assert!(!is_open(&commands));
-    assert!(expected(&commands).into_bytes() == stored("samples", "stdout"));
+    holds("samples");
+}
+
+#[test]
+fn cases() {
+    holds("cases");
 }
 
 /// The stored random cases are those of the default seed.

@@ -23,7 +23,7 @@ const UPPER: u64 = 4294967296;
 fn refused(refusal: Refusal) -> u64
     ensures { λ r. ⌜ r ≡ encoded (refusalOf refusal) ⌝ }
 {
-    refusal::number(refusal) as u64 * UPPER + refusal::place_word(refusal) as u64
+    refusal::number(refusal) as u64 * UPPER + refusal::place(refusal) as u64
 }
 
 // The check: inputs, outputs, instructions and cells into the first four of counts.

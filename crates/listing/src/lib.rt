@@ -57,7 +57,7 @@ fn put_refusal(refusal: Refusal, text: &mut [u8]) -> usize
     requires { ⌜ 25 ≤ length (now text) ⌝ }
     ensures { λ r. ⌜ Put (refusalText (numberOf refusal) (placeOf refusal)) (now (text .entry)) 0 r (now (text .exit)) ⌝ }
 {
-    let numbers = [refusal::number(refusal), refusal::place_word(refusal)];
+    let numbers = [refusal::number(refusal), refusal::place(refusal)];
     put_line(&numbers, text, 0)
 }
 

@@ -79,18 +79,8 @@ fn line_or_node(refusal: Refusal) -> u32
     }
 }
 
-// The document's place of a refusal: its line or node, or -1.
-pub fn place(refusal: Refusal) -> i64
-    ensures { λ r. ⌜ r ≡ placeOf refusal ⌝ }
-{
-    if number(refusal) <= 9 {
-        return line_or_node(refusal) as i64;
-    }
-    -1
-}
-
-// The place as a 32-bit number in two's complement.
-pub fn place_word(refusal: Refusal) -> u32
+// The document's place of a refusal, its line or node, or -1, as a 32-bit number in two's complement.
+pub fn place(refusal: Refusal) -> u32
     ensures { λ r. ⌜ r ≡ low (placeOf refusal) ⌝ }
 {
     if number(refusal) <= 9 {

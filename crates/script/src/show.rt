@@ -26,7 +26,7 @@ pub fn number(word: u32) {
 pub fn refused(refusal: Refusal) {
     text(b" refused");
     number(refusal::number(refusal));
-    number(refusal::place_word(refusal));
+    number(refusal::place(refusal));
 }
 
 // Where the numbers equal to `value` end that begin at `from`.

@@ -7,8 +7,8 @@ use Rattle.listing.proofs.put_refusal.Tie as tie
 number-requires : tie.Need-number-requires
 number-requires c κs = search needs
 
-place-word-requires : tie.Need-place-word-requires
-place-word-requires c κs = search needs
+place-requires : tie.Need-place-requires
+place-requires c κs = search needs
 
 slice-aggregate-put-line : tie.Need-slice-aggregate-put-line
 slice-aggregate-put-line c = search needs
@@ -20,14 +20,14 @@ same-length : tie.Need-same-length
 same-length c = search needs
 
 returns : tie.Need-returns
-returns c = refusal-put (c .before .before .before .before .before .before .before .before .args .refusal) _ _ _ _ _ (c .before .before .before .before .before .before .number .ensures) (c .before .before .before .before .before .place-word .ensures) (c .before .before .put-line .ensures)
+returns c = refusal-put (c .before .before .before .before .before .before .before .before .args .refusal) _ _ _ _ _ (c .before .before .before .before .before .before .number .ensures) (c .before .before .before .before .before .place .ensures) (c .before .before .put-line .ensures)
 
 pub put-refusal-spec : {M : Type 1} → statement M
 put-refusal-spec =
     tie.close
     (tie.spec
     number-requires
-    place-word-requires
+    place-requires
     slice-aggregate-put-line
     put-line-requires
     same-length
