@@ -128,10 +128,44 @@ fn play_memory(line: &[u8], walked: &mut [u32], ran: &mut [u32]) {
     }
 }
 
+// A block of the program of this size.
+fn play_program(
+    line: &[u8],
+    walks: bool,
+    size: usize,
+    sizes: Sizes,
+    program: &[u32],
+    inputs: &[u32],
+    controls: &[u32],
+    cells: &mut [u32],
+    buffer: &mut [u32],
+) {
+    let i = sizes.inputs;
+    let k = sizes.controls;
+    if program.len() < size {
+        return;
+    }
+    if inputs.len() < i {
+        return;
+    }
+    if controls.len() < k {
+        return;
+    }
+    lines::block_line(
+        line,
+        walks,
+        &program[0..size],
+        &inputs[0..i],
+        &controls[0..k],
+        cells,
+        buffer,
+    );
+}
+
 // The lines that walk or run a block.
 fn play_block(
     line: &[u8],
-    sizes: Sizes,
+    s: Sizes,
     table: &[u32],
     code: &[u32],
     inputs: &[u32],
@@ -141,11 +175,21 @@ fn play_block(
     buffer: &mut [u32],
 ) {
     if is(line, b"walk") {
-        lines::walk_line(line, sizes, table, inputs, controls, walked, buffer);
+        play_program(
+            line,
+            true,
+            s.table,
+            s,
+            table,
+            inputs,
+            controls,
+            walked,
+            buffer,
+        );
         return;
     }
     if is(line, b"run") {
-        lines::run_line(line, sizes, code, inputs, controls, ran, buffer);
+        play_program(line, false, s.code, s, code, inputs, controls, ran, buffer);
         return;
     }
 }

@@ -144,129 +144,65 @@ pub fn load_line(line: &[u8], walked: &mut [u32], ran: &mut [u32]) {
     show::text(b"\n");
 }
 
-// `walk T C O` on lent parts.
-fn walk_part(
+// `walk T C O` and `run T C O` on lent parts; the program is a table or a code.
+fn block_part(
+    walks: bool,
     ticks: u32,
     lent: usize,
     count: usize,
-    sizes: Sizes,
-    table: &[u32],
+    program: &[u32],
     inputs: &[u32],
     controls: &[u32],
     cells: &mut [u32],
     buffer: &mut [u32],
 ) {
-    let t = sizes.table;
-    let i = sizes.inputs;
-    let k = sizes.controls;
-    if table.len() < t {
-        return;
-    }
-    if inputs.len() < i {
-        return;
-    }
-    if controls.len() < k {
-        return;
-    }
     if cells.len() < lent {
         return;
     }
     if buffer.len() < count {
         return;
     }
-    calls::walk_block(
-        &table[0..t],
-        ticks,
-        &inputs[0..i],
-        &controls[0..k],
-        &mut cells[0..lent],
-        &mut buffer[0..count],
-    );
-}
-
-pub fn walk_line(
-    line: &[u8],
-    sizes: Sizes,
-    table: &[u32],
-    inputs: &[u32],
-    controls: &[u32],
-    cells: &mut [u32],
-    buffer: &mut [u32],
-) {
-    let mut numbers = [0u32; 3];
-    read_list(line, 4, &mut numbers);
-    put_run(buffer, 0, UNTOUCHED, numbers[2]);
-    walk_part(
-        numbers[0],
-        index(numbers[1]),
-        index(numbers[2]),
-        sizes,
-        table,
-        inputs,
-        controls,
-        cells,
-        buffer,
-    );
-}
-
-// `run T C O` on lent parts.
-fn run_part(
-    ticks: u32,
-    lent: usize,
-    count: usize,
-    sizes: Sizes,
-    code: &[u32],
-    inputs: &[u32],
-    controls: &[u32],
-    cells: &mut [u32],
-    buffer: &mut [u32],
-) {
-    let t = sizes.code;
-    let i = sizes.inputs;
-    let k = sizes.controls;
-    if code.len() < t {
-        return;
-    }
-    if inputs.len() < i {
-        return;
-    }
-    if controls.len() < k {
-        return;
-    }
-    if cells.len() < lent {
-        return;
-    }
-    if buffer.len() < count {
+    if walks {
+        calls::walk_block(
+            program,
+            ticks,
+            inputs,
+            controls,
+            &mut cells[0..lent],
+            &mut buffer[0..count],
+        );
         return;
     }
     calls::run_block(
-        &code[0..t],
+        program,
         ticks,
-        &inputs[0..i],
-        &controls[0..k],
+        inputs,
+        controls,
         &mut cells[0..lent],
         &mut buffer[0..count],
     );
 }
 
-pub fn run_line(
+// The word is a walk's, of 4 bytes, or a run's, of 3.
+pub fn block_line(
     line: &[u8],
-    sizes: Sizes,
-    code: &[u32],
+    walks: bool,
+    program: &[u32],
     inputs: &[u32],
     controls: &[u32],
     cells: &mut [u32],
     buffer: &mut [u32],
 ) {
     let mut numbers = [0u32; 3];
-    read_list(line, 3, &mut numbers);
+    let word = if walks { 4 } else { 3 };
+    read_list(line, word, &mut numbers);
     put_run(buffer, 0, UNTOUCHED, numbers[2]);
-    run_part(
+    block_part(
+        walks,
         numbers[0],
         index(numbers[1]),
         index(numbers[2]),
-        sizes,
-        code,
+        program,
         inputs,
         controls,
         cells,
