@@ -5,7 +5,7 @@ use mathlib.Core.Bool.{true}
 use mathlib.Core.List.{List, [], _∷_, _++_, append-assoc, append-nil}
 use native.Mathlib.Nat.{zero-add, add-zero, suc-add}
 use native.Mathlib.Omega.{arith}
-use lib.ListN.{length, set, take, drop, length-set, length-append, length-drop, length-replicate, drop-of-length-le}
+use lib.ListN.{length, getD, set, take, drop, length-set, length-append, length-drop, length-replicate, drop-of-length-le}
 use lib.Seq.{drop-drop, take-suc-set, take-at, length-take-le}
 use Rattle.word.specs.Choice.{_and_}
 use Rattle.word.specs.Tick.{zeros}
@@ -13,9 +13,10 @@ use Rattle.word.proofs.Lists.{first-true, second-true}
 use Rattle.flat.specs.Flat.{Instruction, width, Machine, machine, effect, worked, execute}
 use Rattle.flat.specs.Code.{header, instructionAt, instructionsOf, inputCount, instructionCount}
 use Rattle.flat.specs.Check.{instructionOk, instructionsOk}
-use Rattle.flat.specs.Steps.{Header, Workable, Steppable, Advanced, Ready}
+use Rattle.flat.specs.Steps.{Header, Keys, Workable, Steppable, Advanced, Ready}
 use Rattle.flat.proofs.Decoded.{code-instructions, instructions-next, ok-step}
 use Rattle.flat.proofs.Effects.{execute-none, execute-first, execute-skipped}
+use Rattle.flat.proofs.Keyed.{keys-as, key-here, keys-on}
 use Rattle.flat.proofs.Working.{works-below, skips-inside}
 
 -- skipped instructions leave zeros
@@ -58,9 +59,9 @@ filled ρ ys zs from to s e h q =
     nothing n l e = drop-of-length-le l {i = n} (omega arith)
 
 -- one step: the instruction, its own register, and zeros for those that it skips
-module _ {x : Instruction} {controls : List ℕ} {own : ℕ} {ρ cs : List ℕ} (w : Steppable x controls own ρ cs) where
-  pub steppable-works : Workable x controls ρ cs
-  steppable-works = record { end = w .end; own = own; ok = w .ok; room = omega (arith, w .inside, w .room); sixteen = w .sixteen }
+module _ {key : ℕ} {x : Instruction} {controls : List ℕ} {own : ℕ} {ρ cs : List ℕ} (w : Steppable key x controls own ρ cs) where
+  pub steppable-works : Workable key x controls ρ cs
+  steppable-works = record { keyed = w .keyed; end = w .end; own = own; ok = w .ok; room = omega (arith, w .inside, w .room); sixteen = w .sixteen }
 
   module _ {v s : ℕ} {cs₁ : List ℕ} (d : worked controls x ρ cs ≡ effect v s cs₁) where
     pub skip-room : own + (1 + s) ≤ length ρ
@@ -84,15 +85,16 @@ module _ {x : Instruction} {controls : List ℕ} {own : ℕ} {ρ cs : List ℕ} 
         }
 
 -- what is left to do at register r, where the instructions stand from p on
-pub record Going (code controls : List ℕ) (target : Machine) (end p r : ℕ) (ρ cs : List ℕ) : Type 0 where
+pub record Going (code keys controls : List ℕ) (target : Machine) (end p r : ℕ) (ρ cs : List ℕ) : Type 0 where
   pub low : r ≤ end
+  pub keyed : Keys code keys end p r
   pub place : p + width * (end - r) ≤ length code
   pub room : end ≤ length ρ
   pub sixteen : length controls ≡ 16
   pub ok : instructionsOk (length cs) end r (instructionsOf (end - r) (drop p code)) ≡ true
   pub same : execute controls (instructionsOf (end - r) (drop p code)) (machine (take r ρ) 0 cs) ≡ target
 
-module _ {code controls : List ℕ} {target : Machine} {end p r : ℕ} {ρ cs : List ℕ} (g : Going code controls target end p r ρ cs) where
+module _ {code keys controls : List ℕ} {target : Machine} {end p r : ℕ} {ρ cs : List ℕ} (g : Going code keys controls target end p r ρ cs) where
   pub arrived : end ≤ r → target ≡ machine (take end ρ) 0 cs
   arrived h =
       let e : r ≡ end = omega (arith, g .low) in
@@ -106,8 +108,8 @@ module _ {code controls : List ℕ} {target : Machine} {end p r : ℕ} {ρ cs : 
     rest-ok : instructionsOk (length cs) end (r + 1) (instructionsOf (end - (r + 1)) (drop (p + width) code)) ≡ true
     rest-ok = second-true (instructionOk (length cs) end r (instructionAt code p)) _ (sym (ok-step (length cs) end r p code h) ∙ g .ok)
 
-    pub steppable : Steppable x controls r ρ cs
-    steppable = record { end = end; ok = here-ok; inside = h; room = g .room; sixteen = g .sixteen }
+    pub steppable : Steppable (getD keys r 0) x controls r ρ cs
+    steppable = record { keyed = key-here (g .keyed) h i; end = end; ok = here-ok; inside = h; room = g .room; sixteen = g .sixteen }
 
     module _ {s : ℕ} {ρ₂ cs₁ : List ℕ} (a : Advanced x controls r ρ cs s ρ₂ cs₁) where
       inside : r + (1 + s) ≤ end
@@ -117,7 +119,7 @@ module _ {code controls : List ℕ} {target : Machine} {end p r : ℕ} {ρ cs : 
       pub next : (r + (1 + s) ≤ length ρ) × (p + (width + width * s) ≤ length code)
       next = (omega (arith, inside, g .room), omega (arith, inside, g .place))
 
-      pub go-on : length ρ₂ ≡ length ρ → length cs₁ ≡ length cs → Going code controls target end (p + (width + width * s)) (r + (1 + s)) ρ₂ cs₁
+      pub go-on : length ρ₂ ≡ length ρ → length cs₁ ≡ length cs → Going code keys controls target end (p + (width + width * s)) (r + (1 + s)) ρ₂ cs₁
       go-on lr lc =
           let b : r + (1 + s) ≤ end = inside in
           let k : ℕ = end - (r + (1 + s)) in
@@ -130,6 +132,7 @@ module _ {code controls : List ℕ} {target : Machine} {end p r : ℕ} {ρ cs : 
           ok-skipped (length cs) end (r + 1) s k (drop (p + width) code) (rw e₂ at rest-ok) in
           record {
             low = b;
+            keyed = keys-on (g .keyed) s;
             place = omega (arith, g .place);
             room = omega (arith, g .room);
             sixteen = g .sixteen;
@@ -143,13 +146,14 @@ module _ {code controls : List ℕ} {target : Machine} {end p r : ℕ} {ρ cs : 
           }
 
 -- the first instruction
-pub begin : (code controls ρ cs : List ℕ) (n c : ℕ) → n ≡ inputCount code → c ≡ instructionCount code → Ready code controls ρ cs
-    → Going code controls (execute controls (instructionsOf (instructionCount code) (drop header code)) (machine (take (inputCount code) ρ) 0 cs)) (n + c) header n ρ cs
-begin code controls ρ cs n c en ec r =
+pub begin : (code keys controls ρ cs : List ℕ) (n c : ℕ) → n ≡ inputCount code → c ≡ instructionCount code → Ready code keys controls ρ cs
+    → Going code keys controls (execute controls (instructionsOf (instructionCount code) (drop header code)) (machine (take (inputCount code) ρ) 0 cs)) (n + c) header n ρ cs
+begin code keys controls ρ cs n c en ec r =
     let h : Header code = r .checked .head in
     let z : n + c - n ≡ c = omega arith in
     record {
       low = omega arith;
+      keyed = keys-as (r .keyed) (sym (ap₂ _+_ en ec)) (sym en);
       place = omega (arith, h .long);
       room = omega (arith, h .ins, h .count, r .room);
       sixteen = r .sixteen;

@@ -3,6 +3,7 @@ pub mod Decoded
 pub mod Passing
 pub mod Effects
 pub mod Working
+pub mod Keyed
 pub mod Executing
 pub mod Ports
 pub mod Runs

@@ -10,9 +10,9 @@ use lib.ListN.{length, getD, take}
 use lib.Seq.{getD-take}
 use Rattle.word.specs.Choice.{_and_, pick}
 use Rattle.word.specs.Operation.{operate, operands, demand}
-use Rattle.flat.specs.Flat.{Instruction, instruction, worked}
+use Rattle.flat.specs.Flat.{Instruction, instruction, effect, worked}
 use Rattle.flat.specs.Check.{instructionOk}
-use Rattle.flat.specs.Steps.{Workable}
+use Rattle.flat.specs.Steps.{keyOf, Workable}
 use Rattle.flat.proofs.Decoded.{four}
 
 -- an operation that has not two inputs does not look at the second
@@ -55,21 +55,20 @@ row cells end r k a b c d h =
     either k 1 number (λ n1. either k 2 control (λ n2. either k 3 operation (λ n3. either k 4 delay (λ n4. either k 5 read (λ n5. either k 6 write (λ n6. either k 7 skip (λ n7.
     absurd (false≢true (simp (n1, n2, n3, n4, n5, n6, n7) at h)))))))))
 
--- where it is none of the first six, it is the last
-pub last-row : {k : ℕ} → Row k → (k ≡ 1 → ⊥) → (k ≡ 2 → ⊥) → (k ≡ 3 → ⊥) → (k ≡ 4 → ⊥) → (k ≡ 5 → ⊥) → (k ≡ 6 → ⊥) → k ≡ 7
-last-row number n1 n2 n3 n4 n5 n6 = absurd (n1 refl)
-last-row control n1 n2 n3 n4 n5 n6 = absurd (n2 refl)
-last-row operation n1 n2 n3 n4 n5 n6 = absurd (n3 refl)
-last-row delay n1 n2 n3 n4 n5 n6 = absurd (n4 refl)
-last-row read n1 n2 n3 n4 n5 n6 = absurd (n5 refl)
-last-row write n1 n2 n3 n4 n5 n6 = absurd (n6 refl)
-last-row skip n1 n2 n3 n4 n5 n6 = refl
+-- there is no operation 0
+no-op : (a : ℕ) → ltb 0 (operands a) ≡ true → a ≡ 0 → ⊥
+unfolding operands
+no-op a t z = false≢true (rw z at t)
 
 -- what the check says, row by row
 module _ (cells end r k a b c d : ℕ) (h : instructionOk cells end r (instruction k a b c d) ≡ true) where
   says2 : k ≡ 2 → a < 16
   unfolding instructionOk
   says2 e = ltb-true _ _ (four (ltb a 16) (eqb b 0) (eqb c 0) (eqb d 0) (rw e at h) .0)
+
+  says-op : k ≡ 3 → a ≡ 0 → ⊥
+  unfolding instructionOk
+  says-op e z = no-op a (four (ltb 0 (operands a)) (ltb b r) (pick (eqb (operands a) 2) (ltb c r) (eqb c 0)) (eqb d 0) (rw e at h) .0) z
 
   says3 : k ≡ 3 → (b < r) × (c < r)
   unfolding instructionOk
@@ -136,25 +135,83 @@ skips-inside cells end r controls x ρ cs h l = go (x .a) (x .b) (x .c) (x .d) (
         either-way true m = omega arith
         either-way false m = omega arith
 
--- the same where it is worked: the places that it reads and writes are there
-module _ {x : Instruction} {controls ρ cs : List ℕ} (w : Workable x controls ρ cs) where
-  pub control-there : x .code ≡ 2 → x .a < length controls
-  control-there e = omega (arith, says2 _ _ _ _ _ _ _ _ (w .ok) e, w .sixteen)
+-- the key of an instruction, from its code and its a
+abbrev keyed : ℕ → ℕ → ℕ
+keyed k a = pick (eqb k 3 and ltb a 10) (7 + a) k
 
-  pub operands-there : x .code ≡ 3 → (x .b < length ρ) × (x .c < length ρ)
-  operands-there e = let o = says3 _ _ _ _ _ _ _ _ (w .ok) e in (omega (arith, o .0, w .room), omega (arith, o .1, w .room))
+-- a key up to 7 is a code, as no operation is the op 0
+key-code : {k : ℕ} (a j : ℕ) → Row k → (k ≡ 3 → a ≡ 0 → ⊥) → keyed k a ≡ j → j ≤ 7 → k ≡ j
+key-code a j number n e l = e
+key-code a j control n e l = e
+key-code a j operation n e l = go (ltb a 10) e
+  where
+    go : (t : Bool) → pick t (7 + a) 3 ≡ j → 3 ≡ j
+    go true e = absurd (n refl (omega arith))
+    go false e = e
+key-code a j delay n e l = e
+key-code a j read n e l = e
+key-code a j write n e l = e
+key-code a j skip n e l = e
 
-  pub delay-there : x .code ≡ 4 → (x .a < length ρ) × ((x .b < length ρ) × ((x .d ≤ 4095) × (x .c + suc (x .d) ≤ length cs)))
-  delay-there e = let o = says4 _ _ _ _ _ _ _ _ (w .ok) e in (omega (arith, o .0, w .room), (omega (arith, o .1 .0, w .room), o .1 .1))
+-- a key from 8 on is an operation
+key-op : {k : ℕ} (a j : ℕ) → Row k → keyed k a ≡ 8 + j → (k ≡ 3) × (a ≡ 1 + j)
+key-op a j number e = omega arith
+key-op a j control e = omega arith
+key-op a j operation e = (refl, go (ltb a 10) e)
+  where
+    go : (t : Bool) → pick t (7 + a) 3 ≡ 8 + j → a ≡ 1 + j
+    go true e = omega arith
+    go false e = omega arith
+key-op a j delay e = omega arith
+key-op a j read e = omega arith
+key-op a j write e = omega arith
+key-op a j skip e = omega arith
 
-  pub cell-there : x .code ≡ 5 → x .a < length cs
-  cell-there e = says5 _ _ _ _ _ _ _ _ (w .ok) e
+-- where the key is no other code, it is an operation
+key-left : {k : ℕ} (a : ℕ) → Row k → (keyed k a ≡ 1 → ⊥) → (keyed k a ≡ 2 → ⊥) → (keyed k a ≡ 4 → ⊥) → (keyed k a ≡ 5 → ⊥) → (keyed k a ≡ 6 → ⊥) → (keyed k a ≡ 7 → ⊥) → k ≡ 3
+key-left a number n1 n2 n4 n5 n6 n7 = absurd (n1 refl)
+key-left a control n1 n2 n4 n5 n6 n7 = absurd (n2 refl)
+key-left a operation n1 n2 n4 n5 n6 n7 = refl
+key-left a delay n1 n2 n4 n5 n6 n7 = absurd (n4 refl)
+key-left a read n1 n2 n4 n5 n6 n7 = absurd (n5 refl)
+key-left a write n1 n2 n4 n5 n6 n7 = absurd (n6 refl)
+key-left a skip n1 n2 n4 n5 n6 n7 = absurd (n7 refl)
 
-  pub write-there : x .code ≡ 6 → (x .a < length cs) × (x .b < length ρ)
-  write-there e = let o = says6 _ _ _ _ _ _ _ _ (w .ok) e in (o .0, omega (arith, o .1, w .room))
+-- the same where it is worked, by its key: the places that it reads and writes are there
+module _ {key : ℕ} {x : Instruction} {controls ρ cs : List ℕ} (w : Workable key x controls ρ cs) where
+  its-row : Row (x .code)
+  its-row = row _ _ _ _ _ _ _ _ (w .ok)
 
-  pub clock-there : x .code ≡ 7 → x .a < length ρ
-  clock-there e = omega (arith, says7 _ _ _ _ _ _ _ _ (w .ok) e .0, w .room)
+  pub code-is : {j : ℕ} → key ≡ j → j ≤ 7 → x .code ≡ j
+  code-is e l = key-code (x .a) _ its-row (says-op _ _ _ _ _ _ _ _ (w .ok)) (sym (w .keyed) ∙ e) l
 
-  pub workable-row : Row (x .code)
-  workable-row = row _ _ _ _ _ _ _ _ (w .ok)
+  -- the operation 1 + j
+  pub op-is : (j : ℕ) → key ≡ 8 + j → (x .code ≡ 3) × (x .a ≡ 1 + j)
+  op-is j e = key-op (x .a) j its-row (sym (w .keyed) ∙ e)
+
+  pub op-left : {A : Type 0} → (((((A × (key ≡ 1 → ⊥)) × (key ≡ 2 → ⊥)) × (key ≡ 4 → ⊥)) × (key ≡ 5 → ⊥)) × (key ≡ 6 → ⊥)) × (key ≡ 7 → ⊥) → (x .code ≡ 3) × (x .a ≡ x .a)
+  op-left n =
+      let z : key ≡ keyOf x = w .keyed in
+      (key-left (x .a) its-row (λ e. n .0 .0 .0 .0 .0 .1 (z ∙ e)) (λ e. n .0 .0 .0 .0 .1 (z ∙ e)) (λ e. n .0 .0 .0 .1 (z ∙ e)) (λ e. n .0 .0 .1 (z ∙ e)) (λ e. n .0 .1 (z ∙ e)) (λ e. n .1 (z ∙ e)), refl)
+
+  pub op-there : {op : ℕ} → (x .code ≡ 3) × (x .a ≡ op) → (x .b < length ρ) × (x .c < length ρ)
+  op-there o = let s = says3 _ _ _ _ _ _ _ _ (w .ok) (o .0) in (omega (arith, s .0, w .room), omega (arith, s .1, w .room))
+
+  pub op-works : {op v s : ℕ} → (x .code ≡ 3) × (x .a ≡ op) → (v ≡ operate op (getD ρ (x .b) 0) (getD ρ (x .c) 0)) × (s ≡ 0) → worked controls x ρ cs ≡ effect v s cs
+  unfolding worked
+  op-works o e = rw (o .0, operate-pick, o .1, e .0, e .1)
+
+  pub control-there : key ≡ 2 → x .a < length controls
+  control-there e = omega (arith, says2 _ _ _ _ _ _ _ _ (w .ok) (code-is e (omega arith)), w .sixteen)
+
+  pub delay-there : key ≡ 4 → (x .a < length ρ) × ((x .b < length ρ) × ((x .d ≤ 4095) × (x .c + suc (x .d) ≤ length cs)))
+  delay-there e = let o = says4 _ _ _ _ _ _ _ _ (w .ok) (code-is e (omega arith)) in (omega (arith, o .0, w .room), (omega (arith, o .1 .0, w .room), o .1 .1))
+
+  pub cell-there : key ≡ 5 → x .a < length cs
+  cell-there e = says5 _ _ _ _ _ _ _ _ (w .ok) (code-is e (omega arith))
+
+  pub write-there : key ≡ 6 → (x .a < length cs) × (x .b < length ρ)
+  write-there e = let o = says6 _ _ _ _ _ _ _ _ (w .ok) (code-is e (omega arith)) in (o .0, omega (arith, o .1, w .room))
+
+  pub clock-there : key ≡ 7 → x .a < length ρ
+  clock-there e = omega (arith, says7 _ _ _ _ _ _ _ _ (w .ok) (code-is e (omega arith)) .0, w .room)

@@ -3,11 +3,13 @@ use Prim.Native.Nat.{ℕ, _+_, _*_, _≤_, _<_}
 use mathlib.Core.Path.{_≡_}
 use mathlib.Core.Bool.{true}
 use mathlib.Core.List.{List, _∷_, _++_}
-use lib.ListN.{length, take}
+use lib.Dec.{eqb, ltb}
+use lib.ListN.{length, getD, take}
+use Rattle.word.specs.Choice.{_and_, pick}
 use Rattle.word.specs.Tick.{zeros}
 use Rattle.flat.specs.declared.format.Instruction.{Instruction as Listed}
-use Rattle.flat.specs.Flat.{Instruction, instruction, effect, worked}
-use Rattle.flat.specs.Code.{resultsAt, inputCount, outputCount, instructionCount, cellCount}
+use Rattle.flat.specs.Flat.{Instruction, instruction, width, effect, worked}
+use Rattle.flat.specs.Code.{header, resultsAt, instructionAt, inputCount, outputCount, instructionCount, cellCount}
 use Rattle.flat.specs.Check.{instructionOk, codeOk}
 
 -- an instruction as the code holds it
@@ -27,8 +29,18 @@ pub record Checked (code : List ℕ) : Type 0 where
   pub ok : codeOk code ≡ true
   pub head : Header code
 
--- an instruction passed the check, and every register below its own is there
-pub record Workable (x : Instruction) (controls registers cells : List ℕ) : Type 0 where
+-- what an instruction does, in one number, its key: its code; an operation comes behind the seven codes
+abbrev pub keyOf : Instruction → ℕ
+keyOf x = pick (eqb (x .code) 3 and ltb (x .a) 10) (7 + x .a) (x .code)
+
+-- the keys of the instructions from place p on stand at the registers that these write, from r on and before `end`
+pub record Keys (code keys : List ℕ) (end p r : ℕ) : Type 0 where
+  pub room : end ≤ length keys
+  pub here : (j : ℕ) → r + j < end → getD keys (r + j) 0 ≡ keyOf (instructionAt code (p + width * j))
+
+-- an instruction of this key passed the check, and every register below its own is there
+pub record Workable (key : ℕ) (x : Instruction) (controls registers cells : List ℕ) : Type 0 where
+  pub keyed : key ≡ keyOf x
   pub end : ℕ
   pub own : ℕ
   pub ok : instructionOk (length cells) end own x ≡ true
@@ -36,7 +48,8 @@ pub record Workable (x : Instruction) (controls registers cells : List ℕ) : Ty
   pub sixteen : length controls ≡ 16
 
 -- the same for its own register and those of the instructions that it may skip
-pub record Steppable (x : Instruction) (controls : List ℕ) (own : ℕ) (registers cells : List ℕ) : Type 0 where
+pub record Steppable (key : ℕ) (x : Instruction) (controls : List ℕ) (own : ℕ) (registers cells : List ℕ) : Type 0 where
+  pub keyed : key ≡ keyOf x
   pub end : ℕ
   pub ok : instructionOk (length cells) end own x ≡ true
   pub inside : own < end
@@ -49,9 +62,10 @@ pub record Advanced (x : Instruction) (controls : List ℕ) (own : ℕ) (registe
   pub does : worked controls x (take own registers) cells ≡ effect value s cells′
   pub takes : take (own + (1 + s)) registers′ ≡ take own registers ++ (value ∷ zeros s)
 
--- a code that passed the check, with what a tick works on
-pub record Ready (code controls registers cells : List ℕ) : Type 0 where
+-- a code that passed the check, its keys, and what a tick works on
+pub record Ready (code keys controls registers cells : List ℕ) : Type 0 where
   pub checked : Checked code
+  pub keyed : Keys code keys (inputCount code + instructionCount code) header (inputCount code)
   pub room : 2080 ≤ length registers
   pub all : length cells ≡ cellCount code
   pub sixteen : length controls ≡ 16

@@ -1,6 +1,7 @@
 // Flat code: its check and its runner.
 mod check;
 mod format;
+mod keys;
 mod machine;
 mod tick;
 
@@ -10,25 +11,30 @@ use format::CELLS;
 use format::INPUTS;
 use format::OUTPUTS;
 use format::REGISTERS;
+use keys::put_keys;
 use refusal::Refusal;
 use tick::run_tick;
 use word::index;
 ghost use mathlib.Core.Path.{_≡_};
+ghost use Prim.Native.Nat.{_+_};
 ghost use Rattle.word.specs.Tick.{stepped};
 ghost use Rattle.cells.specs.Block.{ranAs, ticksOf, played};
-ghost use Rattle.flat.specs.Code.{inputCount, decode, codeTick};
+ghost use Rattle.flat.specs.Code.{header, inputCount, instructionCount, decode, codeTick};
 ghost use Rattle.flat.specs.Run.{answerOf, checks, ran};
-ghost use Rattle.flat.specs.Steps.{Checked, Playable};
+ghost use Rattle.flat.specs.Steps.{Checked, Keys, Playable};
 
-// The ticks of a call that is not refused, one after another, on the cells and the outputs that it needs and no more.
-fn play(
+// The ticks of a call that is not refused, one after another, on the cells and the outputs that it needs and no more,
+// with the keys of its code.
+fn play_keyed(
     code: &[u32],
+    keys: &[u32],
     ticks: usize,
     inputs: &[u32],
     controls: &[u32],
     cells: &mut [u32],
     outputs: &mut [u32],
 )
+    requires { ⌜ Keys (now code) (now keys) (inputCount (now code) + instructionCount (now code)) header (inputCount (now code)) ⌝ }
     requires { ⌜ Playable (now code) ticks (now inputs) (now controls) (now cells) (now outputs) ⌝ }
     ensures { λ _. ⌜ played (codeTick (decode (now (code .entry)))) (ticksOf (inputCount (now (code .entry))) (now (controls .entry)) ticks (now (inputs .entry))) (now (cells .entry))
         ≡ stepped (now (outputs .exit)) (now (cells .exit)) ⌝ }
@@ -44,6 +50,7 @@ fn play(
         let written_to = written + m;
         run_tick(
             code,
+            keys,
             controls,
             &inputs[read..read_to],
             &mut registers,
@@ -54,6 +61,24 @@ fn play(
         written = written_to;
         left -= 1;
     }
+}
+
+// The same, with the keys put together once for all its ticks.
+fn play(
+    code: &[u32],
+    ticks: usize,
+    inputs: &[u32],
+    controls: &[u32],
+    cells: &mut [u32],
+    outputs: &mut [u32],
+)
+    requires { ⌜ Playable (now code) ticks (now inputs) (now controls) (now cells) (now outputs) ⌝ }
+    ensures { λ _. ⌜ played (codeTick (decode (now (code .entry)))) (ticksOf (inputCount (now (code .entry))) (now (controls .entry)) ticks (now (inputs .entry))) (now (cells .entry))
+        ≡ stepped (now (outputs .exit)) (now (cells .exit)) ⌝ }
+{
+    let mut keys = [0u32; REGISTERS];
+    put_keys(code, &mut keys);
+    play_keyed(code, &keys, ticks, inputs, controls, cells, outputs);
 }
 
 // The count of output samples that a call calls for, or its refusal.

@@ -11,10 +11,10 @@ use word::demand;
 use word::index;
 use word::operate;
 ghost use mathlib.Core.Path.{_≡_};
-ghost use Prim.Native.Nat.{_+_};
-ghost use lib.ListN.{take, drop};
+ghost use Prim.Native.Nat.{_+_, _<_};
+ghost use lib.ListN.{length, getD, take, drop};
 ghost use Rattle.word.specs.Choice.{pick};
-ghost use Rattle.word.specs.Operation.{demand as demandOf};
+ghost use Rattle.word.specs.Operation.{operate as operateOf, demand as demandOf};
 ghost use Rattle.flat.specs.Flat.{worked, effect, machine, execute as executeOf};
 ghost use Rattle.flat.specs.Code.{header, instructionsOf, inputCount, instructionCount};
 ghost use Rattle.flat.specs.Steps.{listed, Workable, Steppable, Advanced, Ready};
@@ -45,40 +45,60 @@ fn skips(clock: u32, count: usize) -> Effect
     }
 }
 
-// One instruction that is not skipped.
-fn work(x: Instruction, controls: &[u32], registers: &[u32], cells: &mut [u32]) -> Effect
-    requires { ⌜ Workable (listed x) (now controls) (now registers) (now cells) ⌝ }
+// The operation `op` on the registers that an instruction names.
+fn operated(op: u32, x: Instruction, registers: &[u32]) -> Effect
+    requires { ⌜ (x .b < length (now registers)) × (x .c < length (now registers)) ⌝ }
+    ensures { λ r. ⌜ (r .value ≡ operateOf op (getD (now (registers .entry)) (x .b) 0) (getD (now (registers .entry)) (x .c) 0)) × (r .skip ≡ 0) ⌝ }
+{
+    let b = index(x.b);
+    let c = index(x.c);
+    gives(operate(op, registers[b], registers[c]))
+}
+
+// One instruction that is not skipped, by its key. An operation is the constant of its arm, so that each arm is compiled
+// for itself: one jump finds it.
+fn work(key: u32, x: Instruction, controls: &[u32], registers: &[u32], cells: &mut [u32]) -> Effect
+    requires { ⌜ Workable key (listed x) (now controls) (now registers) (now cells) ⌝ }
     ensures { λ r. ⌜ worked (now (controls .entry)) (listed x) (now (registers .entry)) (now (cells .entry)) ≡ effect (r .value) (r .skip) (now (cells .exit)) ⌝ }
 {
-    let code = x.code;
     let a = index(x.a);
     let b = index(x.b);
-    match code {
+    match key {
         1 => gives(x.a),
         2 => gives(controls[a]),
-        3 => gives(operate(x.a, registers[b], registers[index(x.c)])),
         4 => gives(delay_at(cells, index(x.c), index(x.d), registers[a], registers[b]).value),
         5 => gives(cells[a]),
         6 => {
             cells[a] = registers[b];
             gives(0)
         }
-        _ => skips(registers[a], b),
+        7 => skips(registers[a], b),
+        8 => operated(1, x, registers),
+        9 => operated(2, x, registers),
+        10 => operated(3, x, registers),
+        11 => operated(4, x, registers),
+        12 => operated(5, x, registers),
+        13 => operated(6, x, registers),
+        14 => operated(7, x, registers),
+        15 => operated(8, x, registers),
+        16 => operated(9, x, registers),
+        _ => operated(x.a, x, registers),
     }
 }
 
 // One instruction: its own register, and zeros for the instructions that it skips, which it counts.
 fn step(
+    key: u32,
     x: Instruction,
     controls: &[u32],
     own: usize,
     registers: &mut [u32],
     cells: &mut [u32],
 ) -> usize
-    requires { ⌜ Steppable (listed x) (now controls) own (now registers) (now cells) ⌝ }
+    requires { ⌜ Steppable key (listed x) (now controls) own (now registers) (now cells) ⌝ }
     ensures { λ s. ⌜ Advanced (listed x) (now (controls .entry)) own (now (registers .entry)) (now (cells .entry)) s (now (registers .exit)) (now (cells .exit)) ⌝ }
 {
-    let given = work(x, controls, registers, cells);
+    let given = work(key, x, controls, registers, cells);
     let skip = given.skip;
     registers[own] = given.value;
     let from = own + 1;
@@ -88,8 +108,14 @@ fn step(
 }
 
 // The instructions of a code, over registers of which the first hold the inputs.
-pub fn execute(code: &[u32], controls: &[u32], registers: &mut [u32], cells: &mut [u32])
-    requires { ⌜ Ready (now code) (now controls) (now registers) (now cells) ⌝ }
+pub fn execute(
+    code: &[u32],
+    keys: &[u32],
+    controls: &[u32],
+    registers: &mut [u32],
+    cells: &mut [u32],
+)
+    requires { ⌜ Ready (now code) (now keys) (now controls) (now registers) (now cells) ⌝ }
     ensures { λ _. ⌜ executeOf (now (controls .entry)) (instructionsOf (instructionCount (now (code .entry))) (drop header (now (code .entry)))) (machine (take (inputCount (now (code .entry))) (now (registers .entry))) 0 (now (cells .entry)))
         ≡ machine (take (inputCount (now (code .entry)) + instructionCount (now (code .entry))) (now (registers .exit))) 0 (now (cells .exit)) ⌝ }
 {
@@ -98,7 +124,14 @@ pub fn execute(code: &[u32], controls: &[u32], registers: &mut [u32], cells: &mu
     let mut p: usize = HEADER;
     let mut own: usize = first;
     while own < end {
-        let skip = step(instruction_at(code, p), controls, own, registers, cells);
+        let skip = step(
+            keys[own],
+            instruction_at(code, p),
+            controls,
+            own,
+            registers,
+            cells,
+        );
         p += WIDTH + WIDTH * skip;
         own += 1 + skip;
     }

@@ -42,18 +42,19 @@ fn gather(code: &[u32], from: usize, registers: &[u32], outputs: &mut [u32])
 // The tick; what the registers held before does not matter.
 pub fn run_tick(
     code: &[u32],
+    keys: &[u32],
     controls: &[u32],
     inputs: &[u32],
     registers: &mut [u32],
     cells: &mut [u32],
     outputs: &mut [u32],
 )
-    requires { ⌜ Ready (now code) (now controls) (now registers) (now cells) ⌝ }
+    requires { ⌜ Ready (now code) (now keys) (now controls) (now registers) (now cells) ⌝ }
     requires { ⌜ (length (now inputs) ≡ inputCount (now code)) × (length (now outputs) ≡ outputCount (now code)) ⌝ }
     ensures { λ _. ⌜ codeTick (decode (now (code .entry))) (tick (now (inputs .entry)) (now (controls .entry))) (now (cells .entry)) ≡ stepped (now (outputs .exit)) (now (cells .exit)) ⌝ }
 {
     put(inputs, registers);
-    execute(code, controls, registers, cells);
+    execute(code, keys, controls, registers, cells);
     gather(
         code,
         HEADER + WIDTH * index(code[INSTRUCTIONS]),

@@ -11,12 +11,12 @@ use Rattle.flat.proofs.machine.execute.Statement.{statement}
 use Rattle.flat.proofs.machine.execute.Tie as tie
 
 abbrev Inv-loop : tie.InvT-loop
-Inv-loop code controls registers₀ cells₀ first end p₀ own₀ registers cells p own =
-    Going code controls (executeOf controls (instructionsOf (instructionCount code) (drop header code)) (machine (take (inputCount code) registers₀) 0 cells₀)) end p own registers cells
+Inv-loop code keys controls registers₀ cells₀ first end p₀ own₀ registers cells p own =
+    Going code keys controls (executeOf controls (instructionsOf (instructionCount code) (drop header code)) (machine (take (inputCount code) registers₀) 0 cells₀)) end p own registers cells
     × ((length registers ≡ length registers₀) × (length cells ≡ length cells₀))
 
 abbrev μ-loop : tie.MeasureT-loop
-μ-loop code controls registers₀ cells₀ first end p₀ own₀ registers cells p own = end - own
+μ-loop code keys controls registers₀ cells₀ first end p₀ own₀ registers cells p own = end - own
 
 shared-slice-read-index : tie.Need-shared-slice-read-index Inv-loop μ-loop
 shared-slice-read-index c = search needs
@@ -34,34 +34,40 @@ add-end : tie.Need-add-end Inv-loop μ-loop
 add-end c = search needs
 
 loop-holds : tie.Need-loop-holds Inv-loop μ-loop
-loop-holds c = (begin _ _ _ _ _ _ (c .before .before .index .ensures) (c .index2 .ensures) (c .before .before .before .before .before .before .before .before .pre), (refl, refl))
+loop-holds c = (begin _ _ _ _ _ _ _ (c .before .before .index .ensures) (c .index2 .ensures) (c .before .before .before .before .before .before .before .before .before .pre), (refl, refl))
+
+mul-step : tie.Need-mul-step Inv-loop μ-loop
+mul-step c = search needs
+
+shared-slice-read-step : tie.Need-shared-slice-read-step Inv-loop μ-loop
+shared-slice-read-step c = omega (arith, c .before .before .loop .inv .0 .keyed .room, c .before .loop-test .taken)
 
 instruction-at-requires : tie.Need-instruction-at-requires Inv-loop μ-loop
-instruction-at-requires c κs = omega (arith, c .before .loop .inv .0 .place, c .loop-test .taken)
+instruction-at-requires c κs = omega (arith, c .before .before .loop .inv .0 .place, c .before .loop-test .taken)
 
 step-requires : tie.Need-step-requires Inv-loop μ-loop
-step-requires c κs = steppable (c .before .before .before .before .loop .inv .0) (c .before .before .before .loop-test .taken) (c .before .before .instruction-at .ensures)
+step-requires c κs = steppable (c .before .before .before .before .before .loop .inv .0) (c .before .before .before .before .loop-test .taken) (c .before .before .instruction-at .ensures)
 
 mul-p : tie.Need-mul-p Inv-loop μ-loop
-mul-p c = omega (arith, next (c .before .before .before .before .before .before .before .before .before .loop .inv .0) (c .before .before .before .before .before .before .before .before .loop-test .taken) (c .before .before .before .before .before .before .before .instruction-at .ensures) (c .before .before .before .before .step .ensures) .1)
+mul-p c = omega (arith, next (c .before .before .before .before .before .before .before .before .before .before .loop .inv .0) (c .before .before .before .before .before .before .before .before .before .loop-test .taken) (c .before .before .before .before .before .before .before .instruction-at .ensures) (c .before .before .before .before .step .ensures) .1)
 
 add-p : tie.Need-add-p Inv-loop μ-loop
-add-p c = omega (arith, next (c .before .before .before .before .before .before .before .before .before .loop .inv .0) (c .before .before .before .before .before .before .before .before .loop-test .taken) (c .before .before .before .before .before .before .before .instruction-at .ensures) (c .before .before .before .before .step .ensures) .1)
+add-p c = omega (arith, next (c .before .before .before .before .before .before .before .before .before .before .loop .inv .0) (c .before .before .before .before .before .before .before .before .before .loop-test .taken) (c .before .before .before .before .before .before .before .instruction-at .ensures) (c .before .before .before .before .step .ensures) .1)
 
 add-p-2 : tie.Need-add-p-2 Inv-loop μ-loop
-add-p-2 c = omega (arith, next (c .before .before .before .before .before .before .before .before .before .loop .inv .0) (c .before .before .before .before .before .before .before .before .loop-test .taken) (c .before .before .before .before .before .before .before .instruction-at .ensures) (c .before .before .before .before .step .ensures) .1)
+add-p-2 c = omega (arith, next (c .before .before .before .before .before .before .before .before .before .before .loop .inv .0) (c .before .before .before .before .before .before .before .before .before .loop-test .taken) (c .before .before .before .before .before .before .before .instruction-at .ensures) (c .before .before .before .before .step .ensures) .1)
 
 add-own : tie.Need-add-own Inv-loop μ-loop
-add-own c = omega (arith, next (c .before .before .before .before .before .before .before .before .before .loop .inv .0) (c .before .before .before .before .before .before .before .before .loop-test .taken) (c .before .before .before .before .before .before .before .instruction-at .ensures) (c .before .before .before .before .step .ensures) .0)
+add-own c = omega (arith, next (c .before .before .before .before .before .before .before .before .before .before .loop .inv .0) (c .before .before .before .before .before .before .before .before .before .loop-test .taken) (c .before .before .before .before .before .before .before .instruction-at .ensures) (c .before .before .before .before .step .ensures) .0)
 
 add-own-2 : tie.Need-add-own-2 Inv-loop μ-loop
-add-own-2 c = omega (arith, next (c .before .before .before .before .before .before .before .before .before .loop .inv .0) (c .before .before .before .before .before .before .before .before .loop-test .taken) (c .before .before .before .before .before .before .before .instruction-at .ensures) (c .before .before .before .before .step .ensures) .0)
+add-own-2 c = omega (arith, next (c .before .before .before .before .before .before .before .before .before .before .loop .inv .0) (c .before .before .before .before .before .before .before .before .before .loop-test .taken) (c .before .before .before .before .before .before .before .instruction-at .ensures) (c .before .before .before .before .step .ensures) .0)
 
 loop-less : tie.Need-loop-less Inv-loop μ-loop
 loop-less c = search needs
 
 loop-again : tie.Need-loop-again Inv-loop μ-loop
-loop-again c = (go-on (c .before .before .before .before .before .before .before .before .before .loop .inv .0) (c .before .before .before .before .before .before .before .before .loop-test .taken) (c .before .before .before .before .before .before .before .instruction-at .ensures) (c .before .before .before .before .step .ensures) (c .before .before .before .before .step .kept .1 .1 .1 .0) (c .before .before .before .before .step .kept .1 .1 .1 .1 .0), (c .before .before .before .before .step .kept .1 .1 .1 .0 ∙ c .before .before .before .before .before .before .before .before .before .loop .inv .1 .0, c .before .before .before .before .step .kept .1 .1 .1 .1 .0 ∙ c .before .before .before .before .before .before .before .before .before .loop .inv .1 .1))
+loop-again c = (go-on (c .before .before .before .before .before .before .before .before .before .before .loop .inv .0) (c .before .before .before .before .before .before .before .before .before .loop-test .taken) (c .before .before .before .before .before .before .before .instruction-at .ensures) (c .before .before .before .before .step .ensures) (c .before .before .before .before .step .kept .1 .1 .1 .1 .0) (c .before .before .before .before .step .kept .1 .1 .1 .1 .1 .0), (c .before .before .before .before .step .kept .1 .1 .1 .1 .0 ∙ c .before .before .before .before .before .before .before .before .before .before .loop .inv .1 .0, c .before .before .before .before .step .kept .1 .1 .1 .1 .1 .0 ∙ c .before .before .before .before .before .before .before .before .before .before .loop .inv .1 .1))
 
 same-length : tie.Need-same-length Inv-loop μ-loop
 same-length c = search needs
@@ -84,6 +90,8 @@ execute-spec =
     index-requires-2
     add-end
     loop-holds
+    mul-step
+    shared-slice-read-step
     instruction-at-requires
     step-requires
     mul-p

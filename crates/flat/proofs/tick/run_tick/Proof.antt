@@ -25,8 +25,8 @@ add-gather c = search needs
 
 gather-requires : tie.Need-gather-requires
 gather-requires c κs = (
-  omega (arith, c .before .before .index .ensures, c .before .before .before .before .before .before .before .before .before .before .before .before .before .before .before .before .before .before .before .before .before .pre .0 .checked .head .long, c .before .before .before .before .before .before .before .before .before .before .before .before .before .before .before .before .before .before .before .before .before .pre .1 .1),
-  results-below _ (c .before .before .before .before .before .before .before .before .execute .last .1 .1 .0) _ (c .before .before .before .before .before .before .before .before .before .before .before .before .before .before .before .before .before .before .before .before .before .pre .0 .checked) (c .before .before .index .ensures) (omega (arith, c .before .before .before .before .before .before .before .before .before .before .before .before .before .before .before .before .before .before .before .before .before .pre .0 .room, c .before .before .before .before .before .before .before .before .execute .kept .1 .1 .0, c .before .before .before .before .before .before .before .before .before .before .before .before .before .put .kept .1 .0)),
+  omega (arith, c .before .before .index .ensures, c .before .before .before .before .before .before .before .before .before .before .before .before .before .before .before .before .before .before .before .before .before .before .pre .0 .checked .head .long, c .before .before .before .before .before .before .before .before .before .before .before .before .before .before .before .before .before .before .before .before .before .before .pre .1 .1),
+  results-below _ (c .before .before .before .before .before .before .before .before .execute .last .1 .1 .1 .0) _ (c .before .before .before .before .before .before .before .before .before .before .before .before .before .before .before .before .before .before .before .before .before .before .pre .0 .checked) (c .before .before .index .ensures) (omega (arith, c .before .before .before .before .before .before .before .before .before .before .before .before .before .before .before .before .before .before .before .before .before .before .pre .0 .room, c .before .before .before .before .before .before .before .before .execute .kept .1 .1 .1 .0, c .before .before .before .before .before .before .before .before .before .before .before .before .before .put .kept .1 .0)),
 )
 
 same-length : tie.Need-same-length
@@ -42,7 +42,7 @@ returns : tie.Need-returns
 returns c =
     let e = c .before .before .before .before .before .before .before .before .before .before .before .before .before .before .before .before .put .ensures in
     let q = c .before .before .gather .ensures in
-    ticked _ _ _ _ (c .before .before .before .before .before .before .before .before .before .before .before .before .before .before .before .before .put .last .1 .0) (c .before .before .before .before .before .before .before .before .before .before .before .execute .last .1 .1 .0) _ _ (c .before .before .before .before .before .before .before .before .before .before .before .before .before .before .before .before .before .before .before .before .before .before .before .before .pre .0 .checked) (rw (c .before .before .before .before .before .before .before .before .before .before .before .before .before .before .before .before .before .before .before .before .before .before .before .before .pre .1 .0) at e) (c .before .before .before .before .before .before .before .before .before .before .before .execute .ensures) (rw (c .before .before .before .before .before .index .ensures) at q)
+    ticked _ _ _ _ (c .before .before .before .before .before .before .before .before .before .before .before .before .before .before .before .before .put .last .1 .0) (c .before .before .before .before .before .before .before .before .before .before .before .execute .last .1 .1 .1 .0) _ _ (c .before .before .before .before .before .before .before .before .before .before .before .before .before .before .before .before .before .before .before .before .before .before .before .before .before .pre .0 .checked) (rw (c .before .before .before .before .before .before .before .before .before .before .before .before .before .before .before .before .before .before .before .before .before .before .before .before .before .pre .1 .0) at e) (c .before .before .before .before .before .before .before .before .before .before .before .execute .ensures) (rw (c .before .before .before .before .before .index .ensures) at q)
 
 pub run-tick-spec : {M : Type 1} → statement M
 run-tick-spec =
