@@ -4,15 +4,15 @@ use mathlib.Core.Path.{_≡_, refl, sym, _∙_, subst}
 use mathlib.Core.Bool.{Bool, true, false, false≢true}
 use mathlib.Core.List.{List}
 use native.Mathlib.Omega.{arith}
-use borrow.Author.Tests.{leb-true, eqb-true, ltb-true, ne-eqb}
+use borrow.Author.Tests.{leb-true, eqb-true, ltb-true, lt-ltb, ne-eqb}
 use lib.Dec.{eqb, leb, ltb}
-use lib.ListN.{length, getD, take}
+use lib.ListN.{length, getD, take, List·getD-eq-default}
 use lib.Seq.{getD-take}
 use Rattle.word.specs.Choice.{_and_, pick}
-use Rattle.word.specs.Operation.{operate, operands, demand}
+use Rattle.word.specs.Operation.{operate, operandTable, operands, demand}
 use Rattle.flat.specs.Flat.{Instruction, instruction, effect, worked}
 use Rattle.flat.specs.Check.{instructionOk}
-use Rattle.flat.specs.Steps.{keyOf, Workable}
+use Rattle.flat.specs.Steps.{Workable}
 use Rattle.flat.proofs.Decoded.{four}
 
 -- an operation that has not two inputs does not look at the second
@@ -55,10 +55,19 @@ row cells end r k a b c d h =
     either k 1 number (λ n1. either k 2 control (λ n2. either k 3 operation (λ n3. either k 4 delay (λ n4. either k 5 read (λ n5. either k 6 write (λ n6. either k 7 skip (λ n7.
     absurd (false≢true (simp (n1, n2, n3, n4, n5, n6, n7) at h)))))))))
 
--- there is no operation 0
-no-op : (a : ℕ) → ltb 0 (operands a) ≡ true → a ≡ 0 → ⊥
+-- the operations are those from 1 to 9
+known-op : (a : ℕ) → ltb 0 (operands a) ≡ true → (0 < a) × (a < 10)
 unfolding operands
-no-op a t z = false≢true (rw z at t)
+known-op a t = (
+  le-by (λ (h : a ≡ 0). false≢true (rw h at t)),
+  below (λ (h : 10 ≤ a). false≢true (rw (List·getD-eq-default operandTable 0 h) at t)),
+)
+  where
+    le-by : (a ≡ 0 → ⊥) → 0 < a
+    le-by h = omega arith
+
+    below : (10 ≤ a → ⊥) → a < 10
+    below h = omega arith
 
 -- what the check says, row by row
 module _ (cells end r k a b c d : ℕ) (h : instructionOk cells end r (instruction k a b c d) ≡ true) where
@@ -66,9 +75,9 @@ module _ (cells end r k a b c d : ℕ) (h : instructionOk cells end r (instructi
   unfolding instructionOk
   says2 e = ltb-true _ _ (four (ltb a 16) (eqb b 0) (eqb c 0) (eqb d 0) (rw e at h) .0)
 
-  says-op : k ≡ 3 → a ≡ 0 → ⊥
+  says-op : k ≡ 3 → (0 < a) × (a < 10)
   unfolding instructionOk
-  says-op e z = no-op a (four (ltb 0 (operands a)) (ltb b r) (pick (eqb (operands a) 2) (ltb c r) (eqb c 0)) (eqb d 0) (rw e at h) .0) z
+  says-op e = known-op a (four (ltb 0 (operands a)) (ltb b r) (pick (eqb (operands a) 2) (ltb c r) (eqb c 0)) (eqb d 0) (rw e at h) .0)
 
   says3 : k ≡ 3 → (b < r) × (c < r)
   unfolding instructionOk
@@ -137,21 +146,21 @@ skips-inside cells end r controls x ρ cs h l = go (x .a) (x .b) (x .c) (x .d) (
 
 -- the key of an instruction, from its code and its a
 abbrev keyed : ℕ → ℕ → ℕ
-keyed k a = pick (eqb k 3 and ltb a 10) (7 + a) k
+keyed k a = pick (eqb k 7) 0 (pick (eqb k 3 and ltb a 10) (7 + a) k)
 
--- a key up to 7 is a code, as no operation is the op 0
-key-code : {k : ℕ} (a j : ℕ) → Row k → (k ≡ 3 → a ≡ 0 → ⊥) → keyed k a ≡ j → j ≤ 7 → k ≡ j
-key-code a j number n e l = e
-key-code a j control n e l = e
-key-code a j operation n e l = go (ltb a 10) e
+-- a key from 1 to 7 is a code, as there is no operation 0
+key-code : {k : ℕ} (a j : ℕ) → Row k → (k ≡ 3 → (0 < a) × (a < 10)) → keyed k a ≡ j → 0 < j → j ≤ 7 → k ≡ j
+key-code a j number o e m l = e
+key-code a j control o e m l = e
+key-code a j operation o e m l = go (ltb a 10) e
   where
     go : (t : Bool) → pick t (7 + a) 3 ≡ j → 3 ≡ j
-    go true e = absurd (n refl (omega arith))
+    go true e = omega (arith, o refl .0)
     go false e = e
-key-code a j delay n e l = e
-key-code a j read n e l = e
-key-code a j write n e l = e
-key-code a j skip n e l = e
+key-code a j delay o e m l = e
+key-code a j read o e m l = e
+key-code a j write o e m l = e
+key-code a j skip o e m l = omega arith
 
 -- a key from 8 on is an operation
 key-op : {k : ℕ} (a j : ℕ) → Row k → keyed k a ≡ 8 + j → (k ≡ 3) × (a ≡ 1 + j)
@@ -167,32 +176,39 @@ key-op a j read e = omega arith
 key-op a j write e = omega arith
 key-op a j skip e = omega arith
 
--- where the key is no other code, it is an operation
-key-left : {k : ℕ} (a : ℕ) → Row k → (keyed k a ≡ 1 → ⊥) → (keyed k a ≡ 2 → ⊥) → (keyed k a ≡ 4 → ⊥) → (keyed k a ≡ 5 → ⊥) → (keyed k a ≡ 6 → ⊥) → (keyed k a ≡ 7 → ⊥) → k ≡ 3
-key-left a number n1 n2 n4 n5 n6 n7 = absurd (n1 refl)
-key-left a control n1 n2 n4 n5 n6 n7 = absurd (n2 refl)
-key-left a operation n1 n2 n4 n5 n6 n7 = refl
-key-left a delay n1 n2 n4 n5 n6 n7 = absurd (n4 refl)
-key-left a read n1 n2 n4 n5 n6 n7 = absurd (n5 refl)
-key-left a write n1 n2 n4 n5 n6 n7 = absurd (n6 refl)
-key-left a skip n1 n2 n4 n5 n6 n7 = absurd (n7 refl)
+-- where the key is none of these, it is a skip's
+abbrev Rest : Type 0 → ℕ → Type 0
+Rest A z = (((((((((((((A × (z ≡ 1 → ⊥)) × (z ≡ 2 → ⊥)) × (z ≡ 4 → ⊥)) × (z ≡ 5 → ⊥)) × (z ≡ 6 → ⊥)) × (z ≡ 8 → ⊥)) × (z ≡ 9 → ⊥)) × (z ≡ 10 → ⊥)) × (z ≡ 11 → ⊥)) × (z ≡ 12 → ⊥)) × (z ≡ 13 → ⊥)) × (z ≡ 14 → ⊥)) × (z ≡ 15 → ⊥)) × (z ≡ 16 → ⊥)
+
+key-left : {k : ℕ} {A : Type 0} (a : ℕ) → Row k → (k ≡ 3 → (0 < a) × (a < 10)) → Rest A (keyed k a) → k ≡ 7
+key-left a number o n = absurd (n .0 .0 .0 .0 .0 .0 .0 .0 .0 .0 .0 .0 .0 .1 refl)
+key-left a control o n = absurd (n .0 .0 .0 .0 .0 .0 .0 .0 .0 .0 .0 .0 .1 refl)
+key-left a operation o n = absurd (none (o refl .0) (o refl .1) (rw (lt-ltb a 10 (o refl .1)) at n))
+  where
+    on : {j : ℕ} → j ≤ a → (7 + a ≡ 7 + j → ⊥) → suc j ≤ a
+    on l q = omega arith
+
+    none : {A : Type 0} → 0 < a → a < 10 → Rest A (7 + a) → ⊥
+    none l h n = omega (arith, on (on (on (on (on (on (on (on (on l (n .0 .0 .0 .0 .0 .0 .0 .0 .1)) (n .0 .0 .0 .0 .0 .0 .0 .1)) (n .0 .0 .0 .0 .0 .0 .1)) (n .0 .0 .0 .0 .0 .1)) (n .0 .0 .0 .0 .1)) (n .0 .0 .0 .1)) (n .0 .0 .1)) (n .0 .1)) (n .1))
+key-left a delay o n = absurd (n .0 .0 .0 .0 .0 .0 .0 .0 .0 .0 .0 .1 refl)
+key-left a read o n = absurd (n .0 .0 .0 .0 .0 .0 .0 .0 .0 .0 .1 refl)
+key-left a write o n = absurd (n .0 .0 .0 .0 .0 .0 .0 .0 .0 .1 refl)
+key-left a skip o n = refl
 
 -- the same where it is worked, by its key: the places that it reads and writes are there
 module _ {key : ℕ} {x : Instruction} {controls ρ cs : List ℕ} (w : Workable key x controls ρ cs) where
   its-row : Row (x .code)
   its-row = row _ _ _ _ _ _ _ _ (w .ok)
 
-  pub code-is : {j : ℕ} → key ≡ j → j ≤ 7 → x .code ≡ j
-  code-is e l = key-code (x .a) _ its-row (says-op _ _ _ _ _ _ _ _ (w .ok)) (sym (w .keyed) ∙ e) l
+  pub code-is : {j : ℕ} → key ≡ j → 0 < j → j ≤ 7 → x .code ≡ j
+  code-is e m l = key-code (x .a) _ its-row (says-op _ _ _ _ _ _ _ _ (w .ok)) (sym (w .keyed) ∙ e) m l
 
   -- the operation 1 + j
   pub op-is : (j : ℕ) → key ≡ 8 + j → (x .code ≡ 3) × (x .a ≡ 1 + j)
   op-is j e = key-op (x .a) j its-row (sym (w .keyed) ∙ e)
 
-  pub op-left : {A : Type 0} → (((((A × (key ≡ 1 → ⊥)) × (key ≡ 2 → ⊥)) × (key ≡ 4 → ⊥)) × (key ≡ 5 → ⊥)) × (key ≡ 6 → ⊥)) × (key ≡ 7 → ⊥) → (x .code ≡ 3) × (x .a ≡ x .a)
-  op-left n =
-      let z : key ≡ keyOf x = w .keyed in
-      (key-left (x .a) its-row (λ e. n .0 .0 .0 .0 .0 .1 (z ∙ e)) (λ e. n .0 .0 .0 .0 .1 (z ∙ e)) (λ e. n .0 .0 .0 .1 (z ∙ e)) (λ e. n .0 .0 .1 (z ∙ e)) (λ e. n .0 .1 (z ∙ e)) (λ e. n .1 (z ∙ e)), refl)
+  pub skip-left : {A : Type 0} → Rest A key → x .code ≡ 7
+  skip-left {A} n = key-left (x .a) its-row (says-op _ _ _ _ _ _ _ _ (w .ok)) (subst (Rest A) (w .keyed) n)
 
   pub op-there : {op : ℕ} → (x .code ≡ 3) × (x .a ≡ op) → (x .b < length ρ) × (x .c < length ρ)
   op-there o = let s = says3 _ _ _ _ _ _ _ _ (w .ok) (o .0) in (omega (arith, s .0, w .room), omega (arith, s .1, w .room))
@@ -202,16 +218,16 @@ module _ {key : ℕ} {x : Instruction} {controls ρ cs : List ℕ} (w : Workable
   op-works o e = rw (o .0, operate-pick, o .1, e .0, e .1)
 
   pub control-there : key ≡ 2 → x .a < length controls
-  control-there e = omega (arith, says2 _ _ _ _ _ _ _ _ (w .ok) (code-is e (omega arith)), w .sixteen)
+  control-there e = omega (arith, says2 _ _ _ _ _ _ _ _ (w .ok) (code-is e (omega arith) (omega arith)), w .sixteen)
 
   pub delay-there : key ≡ 4 → (x .a < length ρ) × ((x .b < length ρ) × ((x .d ≤ 4095) × (x .c + suc (x .d) ≤ length cs)))
-  delay-there e = let o = says4 _ _ _ _ _ _ _ _ (w .ok) (code-is e (omega arith)) in (omega (arith, o .0, w .room), (omega (arith, o .1 .0, w .room), o .1 .1))
+  delay-there e = let o = says4 _ _ _ _ _ _ _ _ (w .ok) (code-is e (omega arith) (omega arith)) in (omega (arith, o .0, w .room), (omega (arith, o .1 .0, w .room), o .1 .1))
 
   pub cell-there : key ≡ 5 → x .a < length cs
-  cell-there e = says5 _ _ _ _ _ _ _ _ (w .ok) (code-is e (omega arith))
+  cell-there e = says5 _ _ _ _ _ _ _ _ (w .ok) (code-is e (omega arith) (omega arith))
 
   pub write-there : key ≡ 6 → (x .a < length cs) × (x .b < length ρ)
-  write-there e = let o = says6 _ _ _ _ _ _ _ _ (w .ok) (code-is e (omega arith)) in (o .0, omega (arith, o .1, w .room))
+  write-there e = let o = says6 _ _ _ _ _ _ _ _ (w .ok) (code-is e (omega arith) (omega arith)) in (o .0, omega (arith, o .1, w .room))
 
-  pub clock-there : key ≡ 7 → x .a < length ρ
-  clock-there e = omega (arith, says7 _ _ _ _ _ _ _ _ (w .ok) (code-is e (omega arith)) .0, w .room)
+  pub clock-there : x .code ≡ 7 → x .a < length ρ
+  clock-there e = omega (arith, says7 _ _ _ _ _ _ _ _ (w .ok) e .0, w .room)

@@ -29,9 +29,9 @@ pub record Checked (code : List ℕ) : Type 0 where
   pub ok : codeOk code ≡ true
   pub head : Header code
 
--- what an instruction does, in one number, its key: its code; an operation comes behind the seven codes
+-- what an instruction does, in one number, its key: 0 for a skip, 7 and its op for an operation, for any other its code
 abbrev pub keyOf : Instruction → ℕ
-keyOf x = pick (eqb (x .code) 3 and ltb (x .a) 10) (7 + x .a) (x .code)
+keyOf x = pick (eqb (x .code) 7) 0 (pick (eqb (x .code) 3 and ltb (x .a) 10) (7 + x .a) (x .code))
 
 -- the keys of the instructions from place p on stand at the registers that these write, from r on and before `end`
 pub record Keys (code keys : List ℕ) (end p r : ℕ) : Type 0 where

@@ -12,10 +12,13 @@ ghost use lib.ListN.{length};
 ghost use Rattle.flat.specs.Code.{header, inputCount, instructionCount};
 ghost use Rattle.flat.specs.Steps.{listed, keyOf, Header, Keys};
 
-// The key of an instruction: its code; an operation comes behind the seven codes.
+// The key of an instruction: 0 for a skip, 7 and its op for an operation, for any other its code.
 fn key_of(x: Instruction) -> u32
     ensures { λ r. ⌜ r ≡ keyOf (listed x) ⌝ }
 {
+    if x.code == 7 {
+        return 0;
+    }
     if x.code != 3 {
         return x.code;
     }

@@ -55,8 +55,8 @@ fn operated(op: u32, x: Instruction, registers: &[u32]) -> Effect
     gives(operate(op, registers[b], registers[c]))
 }
 
-// One instruction that is not skipped, by its key. An operation is the constant of its arm, so that each arm is compiled
-// for itself: one jump finds it.
+// One instruction that is not skipped, by its key. An operation's arm names it as a constant, so that each is compiled
+// for itself, and one jump finds it.
 fn work(key: u32, x: Instruction, controls: &[u32], registers: &[u32], cells: &mut [u32]) -> Effect
     requires { ⌜ Workable key (listed x) (now controls) (now registers) (now cells) ⌝ }
     ensures { λ r. ⌜ worked (now (controls .entry)) (listed x) (now (registers .entry)) (now (cells .entry)) ≡ effect (r .value) (r .skip) (now (cells .exit)) ⌝ }
@@ -72,7 +72,6 @@ fn work(key: u32, x: Instruction, controls: &[u32], registers: &[u32], cells: &m
             cells[a] = registers[b];
             gives(0)
         }
-        7 => skips(registers[a], b),
         8 => operated(1, x, registers),
         9 => operated(2, x, registers),
         10 => operated(3, x, registers),
@@ -82,7 +81,7 @@ fn work(key: u32, x: Instruction, controls: &[u32], registers: &[u32], cells: &m
         14 => operated(7, x, registers),
         15 => operated(8, x, registers),
         16 => operated(9, x, registers),
-        _ => operated(x.a, x, registers),
+        _ => skips(registers[a], b),
     }
 }
 

@@ -1,7 +1,7 @@
 -- `flat::machine::work` meets its contract, key by key.
 use native.Mathlib.Omega.{arith}
 use Rattle.flat.specs.Flat.{worked}
-use Rattle.flat.proofs.Working.{code-is, op-is, op-left, op-there, op-works, control-there, delay-there, cell-there, write-there, clock-there}
+use Rattle.flat.proofs.Working.{code-is, op-is, skip-left, op-there, op-works, control-there, delay-there, cell-there, write-there, clock-there}
 use borrow.Author.Needs.{needs}
 use Rattle.flat.proofs.machine.work.Statement.{statement}
 use Rattle.flat.proofs.machine.work.Tie as tie
@@ -74,104 +74,98 @@ slice-write-cells c = omega (arith, write-there (c .before .before .before .befo
 gives-requires-5 : tie.Need-gives-requires-5
 gives-requires-5 c κs = search needs
 
+operated-requires : tie.Need-operated-requires
+operated-requires c κs = op-there (c .before .before .before .before .before .before .pre) (op-is (c .before .before .before .before .before .before .pre) 0 (c .match .keys6))
+
+operated-requires-2 : tie.Need-operated-requires-2
+operated-requires-2 c κs = op-there (c .before .before .before .before .before .before .pre) (op-is (c .before .before .before .before .before .before .pre) 1 (c .match .keys7))
+
+operated-requires-3 : tie.Need-operated-requires-3
+operated-requires-3 c κs = op-there (c .before .before .before .before .before .before .pre) (op-is (c .before .before .before .before .before .before .pre) 2 (c .match .keys8))
+
+operated-requires-4 : tie.Need-operated-requires-4
+operated-requires-4 c κs = op-there (c .before .before .before .before .before .before .pre) (op-is (c .before .before .before .before .before .before .pre) 3 (c .match .keys9))
+
+operated-requires-5 : tie.Need-operated-requires-5
+operated-requires-5 c κs = op-there (c .before .before .before .before .before .before .pre) (op-is (c .before .before .before .before .before .before .pre) 4 (c .match .keys10))
+
+operated-requires-6 : tie.Need-operated-requires-6
+operated-requires-6 c κs = op-there (c .before .before .before .before .before .before .pre) (op-is (c .before .before .before .before .before .before .pre) 5 (c .match .keys11))
+
+operated-requires-7 : tie.Need-operated-requires-7
+operated-requires-7 c κs = op-there (c .before .before .before .before .before .before .pre) (op-is (c .before .before .before .before .before .before .pre) 6 (c .match .keys12))
+
+operated-requires-8 : tie.Need-operated-requires-8
+operated-requires-8 c κs = op-there (c .before .before .before .before .before .before .pre) (op-is (c .before .before .before .before .before .before .pre) 7 (c .match .keys13))
+
+operated-requires-9 : tie.Need-operated-requires-9
+operated-requires-9 c κs = op-there (c .before .before .before .before .before .before .pre) (op-is (c .before .before .before .before .before .before .pre) 8 (c .match .keys14))
+
 mul-skips : tie.Need-mul-skips
 mul-skips c = search needs
 
 shared-slice-read-skips : tie.Need-shared-slice-read-skips
-shared-slice-read-skips c = omega (arith, clock-there (c .before .before .before .before .before .before .before .pre) (c .before .match .keys6), c .before .before .before .index .ensures)
+shared-slice-read-skips c = omega (arith, clock-there (c .before .before .before .before .before .before .before .pre) (skip-left (c .before .before .before .before .before .before .before .pre) (c .before .match .rest)), c .before .before .before .index .ensures)
 
 skips-requires : tie.Need-skips-requires
 skips-requires c κs = search needs
 
-operated-requires : tie.Need-operated-requires
-operated-requires c κs = op-there (c .before .before .before .before .before .before .pre) (op-is (c .before .before .before .before .before .before .pre) 0 (c .match .keys7))
-
-operated-requires-2 : tie.Need-operated-requires-2
-operated-requires-2 c κs = op-there (c .before .before .before .before .before .before .pre) (op-is (c .before .before .before .before .before .before .pre) 1 (c .match .keys8))
-
-operated-requires-3 : tie.Need-operated-requires-3
-operated-requires-3 c κs = op-there (c .before .before .before .before .before .before .pre) (op-is (c .before .before .before .before .before .before .pre) 2 (c .match .keys9))
-
-operated-requires-4 : tie.Need-operated-requires-4
-operated-requires-4 c κs = op-there (c .before .before .before .before .before .before .pre) (op-is (c .before .before .before .before .before .before .pre) 3 (c .match .keys10))
-
-operated-requires-5 : tie.Need-operated-requires-5
-operated-requires-5 c κs = op-there (c .before .before .before .before .before .before .pre) (op-is (c .before .before .before .before .before .before .pre) 4 (c .match .keys11))
-
-operated-requires-6 : tie.Need-operated-requires-6
-operated-requires-6 c κs = op-there (c .before .before .before .before .before .before .pre) (op-is (c .before .before .before .before .before .before .pre) 5 (c .match .keys12))
-
-operated-requires-7 : tie.Need-operated-requires-7
-operated-requires-7 c κs = op-there (c .before .before .before .before .before .before .pre) (op-is (c .before .before .before .before .before .before .pre) 6 (c .match .keys13))
-
-operated-requires-8 : tie.Need-operated-requires-8
-operated-requires-8 c κs = op-there (c .before .before .before .before .before .before .pre) (op-is (c .before .before .before .before .before .before .pre) 7 (c .match .keys14))
-
-operated-requires-9 : tie.Need-operated-requires-9
-operated-requires-9 c κs = op-there (c .before .before .before .before .before .before .pre) (op-is (c .before .before .before .before .before .before .pre) 8 (c .match .keys15))
-
-operated-requires-10 : tie.Need-operated-requires-10
-operated-requires-10 c κs = op-there (c .before .before .before .before .before .before .pre) (op-left (c .before .before .before .before .before .before .pre) (c .match .rest .0 .0 .0 .0 .0 .0 .0 .0 .0))
-
 returns : tie.Need-returns
 unfolding worked
-returns c = rw (code-is (c .before .before .before .before .before .before .before .pre) (c .before .match .keys1) (omega arith), c .gives .ensures .0, c .gives .ensures .1)
+returns c = rw (code-is (c .before .before .before .before .before .before .before .pre) (c .before .match .keys1) (omega arith) (omega arith), c .gives .ensures .0, c .gives .ensures .1)
 
 returns-2 : tie.Need-returns-2
 unfolding worked
-returns-2 c = rw (code-is (c .before .before .before .before .before .before .before .before .pre) (c .before .before .match .keys2) (omega arith), c .gives2 .ensures .0, c .gives2 .ensures .1, c .before .before .before .before .index .ensures)
+returns-2 c = rw (code-is (c .before .before .before .before .before .before .before .before .pre) (c .before .before .match .keys2) (omega arith) (omega arith), c .gives2 .ensures .0, c .gives2 .ensures .1, c .before .before .before .before .index .ensures)
 
 same-length : tie.Need-same-length
 same-length c = search needs
 
 returns-3 : tie.Need-returns-3
 unfolding worked
-returns-3 c = rw (code-is (c .before .before .before .before .before .before .before .before .before .before .before .before .before .before .before .pre) (c .before .before .before .before .before .before .before .before .before .match .keys3) (omega arith), c .gives3 .ensures .0, c .gives3 .ensures .1, c .before .before .before .delay-at .ensures .0, c .before .before .before .delay-at .ensures .1, c .before .before .before .before .before .before .before .before .before .before .before .index .ensures, c .before .before .before .before .before .before .before .before .before .before .index2 .ensures, c .before .before .before .before .before .before .before .index3 .ensures, c .before .before .before .before .before .before .index4 .ensures)
+returns-3 c = rw (code-is (c .before .before .before .before .before .before .before .before .before .before .before .before .before .before .before .pre) (c .before .before .before .before .before .before .before .before .before .match .keys3) (omega arith) (omega arith), c .gives3 .ensures .0, c .gives3 .ensures .1, c .before .before .before .delay-at .ensures .0, c .before .before .before .delay-at .ensures .1, c .before .before .before .before .before .before .before .before .before .before .before .index .ensures, c .before .before .before .before .before .before .before .before .before .before .index2 .ensures, c .before .before .before .before .before .before .before .index3 .ensures, c .before .before .before .before .before .before .index4 .ensures)
 
 returns-4 : tie.Need-returns-4
 unfolding worked
-returns-4 c = rw (code-is (c .before .before .before .before .before .before .before .before .pre) (c .before .before .match .keys4) (omega arith), c .gives4 .ensures .0, c .gives4 .ensures .1, c .before .before .before .before .index .ensures)
+returns-4 c = rw (code-is (c .before .before .before .before .before .before .before .before .pre) (c .before .before .match .keys4) (omega arith) (omega arith), c .gives4 .ensures .0, c .gives4 .ensures .1, c .before .before .before .before .index .ensures)
 
 same-length-2 : tie.Need-same-length-2
 same-length-2 c = search needs
 
 returns-5 : tie.Need-returns-5
 unfolding worked
-returns-5 c = rw (code-is (c .before .before .before .before .before .before .before .before .pre) (c .before .before .match .keys5) (omega arith), c .gives5 .ensures .0, c .gives5 .ensures .1, c .before .before .before .before .index .ensures, c .before .before .before .index2 .ensures)
+returns-5 c = rw (code-is (c .before .before .before .before .before .before .before .before .pre) (c .before .before .match .keys5) (omega arith) (omega arith), c .gives5 .ensures .0, c .gives5 .ensures .1, c .before .before .before .before .index .ensures, c .before .before .before .index2 .ensures)
 
 returns-6 : tie.Need-returns-6
-unfolding worked
-returns-6 c = rw (code-is (c .before .before .before .before .before .before .before .before .pre) (c .before .before .match .keys6) (omega arith), c .skips .ensures .0, c .skips .ensures .1, c .before .before .before .before .index .ensures, c .before .before .before .index2 .ensures)
+returns-6 c = op-works (c .before .before .before .before .before .before .before .pre) (op-is (c .before .before .before .before .before .before .before .pre) 0 (c .before .match .keys6)) (c .operated .ensures)
 
 returns-7 : tie.Need-returns-7
-returns-7 c = op-works (c .before .before .before .before .before .before .before .pre) (op-is (c .before .before .before .before .before .before .before .pre) 0 (c .before .match .keys7)) (c .operated .ensures)
+returns-7 c = op-works (c .before .before .before .before .before .before .before .pre) (op-is (c .before .before .before .before .before .before .before .pre) 1 (c .before .match .keys7)) (c .operated2 .ensures)
 
 returns-8 : tie.Need-returns-8
-returns-8 c = op-works (c .before .before .before .before .before .before .before .pre) (op-is (c .before .before .before .before .before .before .before .pre) 1 (c .before .match .keys8)) (c .operated2 .ensures)
+returns-8 c = op-works (c .before .before .before .before .before .before .before .pre) (op-is (c .before .before .before .before .before .before .before .pre) 2 (c .before .match .keys8)) (c .operated3 .ensures)
 
 returns-9 : tie.Need-returns-9
-returns-9 c = op-works (c .before .before .before .before .before .before .before .pre) (op-is (c .before .before .before .before .before .before .before .pre) 2 (c .before .match .keys9)) (c .operated3 .ensures)
+returns-9 c = op-works (c .before .before .before .before .before .before .before .pre) (op-is (c .before .before .before .before .before .before .before .pre) 3 (c .before .match .keys9)) (c .operated4 .ensures)
 
 returns-10 : tie.Need-returns-10
-returns-10 c = op-works (c .before .before .before .before .before .before .before .pre) (op-is (c .before .before .before .before .before .before .before .pre) 3 (c .before .match .keys10)) (c .operated4 .ensures)
+returns-10 c = op-works (c .before .before .before .before .before .before .before .pre) (op-is (c .before .before .before .before .before .before .before .pre) 4 (c .before .match .keys10)) (c .operated5 .ensures)
 
 returns-11 : tie.Need-returns-11
-returns-11 c = op-works (c .before .before .before .before .before .before .before .pre) (op-is (c .before .before .before .before .before .before .before .pre) 4 (c .before .match .keys11)) (c .operated5 .ensures)
+returns-11 c = op-works (c .before .before .before .before .before .before .before .pre) (op-is (c .before .before .before .before .before .before .before .pre) 5 (c .before .match .keys11)) (c .operated6 .ensures)
 
 returns-12 : tie.Need-returns-12
-returns-12 c = op-works (c .before .before .before .before .before .before .before .pre) (op-is (c .before .before .before .before .before .before .before .pre) 5 (c .before .match .keys12)) (c .operated6 .ensures)
+returns-12 c = op-works (c .before .before .before .before .before .before .before .pre) (op-is (c .before .before .before .before .before .before .before .pre) 6 (c .before .match .keys12)) (c .operated7 .ensures)
 
 returns-13 : tie.Need-returns-13
-returns-13 c = op-works (c .before .before .before .before .before .before .before .pre) (op-is (c .before .before .before .before .before .before .before .pre) 6 (c .before .match .keys13)) (c .operated7 .ensures)
+returns-13 c = op-works (c .before .before .before .before .before .before .before .pre) (op-is (c .before .before .before .before .before .before .before .pre) 7 (c .before .match .keys13)) (c .operated8 .ensures)
 
 returns-14 : tie.Need-returns-14
-returns-14 c = op-works (c .before .before .before .before .before .before .before .pre) (op-is (c .before .before .before .before .before .before .before .pre) 7 (c .before .match .keys14)) (c .operated8 .ensures)
+returns-14 c = op-works (c .before .before .before .before .before .before .before .pre) (op-is (c .before .before .before .before .before .before .before .pre) 8 (c .before .match .keys14)) (c .operated9 .ensures)
 
 returns-15 : tie.Need-returns-15
-returns-15 c = op-works (c .before .before .before .before .before .before .before .pre) (op-is (c .before .before .before .before .before .before .before .pre) 8 (c .before .match .keys15)) (c .operated9 .ensures)
-
-returns-16 : tie.Need-returns-16
-returns-16 c = op-works (c .before .before .before .before .before .before .before .pre) (op-left (c .before .before .before .before .before .before .before .pre) (c .before .match .rest .0 .0 .0 .0 .0 .0 .0 .0 .0)) (c .operated10 .ensures)
+unfolding worked
+returns-15 c = rw (skip-left (c .before .before .before .before .before .before .before .before .pre) (c .before .before .match .rest), c .skips .ensures .0, c .skips .ensures .1, c .before .before .before .before .index .ensures, c .before .before .before .index2 .ensures)
 
 pub work-spec : {M : Type 1} → statement M
 work-spec =
@@ -199,9 +193,6 @@ work-spec =
     mul-cells-2
     slice-write-cells
     gives-requires-5
-    mul-skips
-    shared-slice-read-skips
-    skips-requires
     operated-requires
     operated-requires-2
     operated-requires-3
@@ -211,7 +202,9 @@ work-spec =
     operated-requires-7
     operated-requires-8
     operated-requires-9
-    operated-requires-10
+    mul-skips
+    shared-slice-read-skips
+    skips-requires
     returns
     returns-2
     same-length
@@ -228,5 +221,4 @@ work-spec =
     returns-12
     returns-13
     returns-14
-    returns-15
-    returns-16)
+    returns-15)
