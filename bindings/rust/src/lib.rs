@@ -184,7 +184,14 @@ pub fn walk(
     cells: &mut [i32],
     outputs: &mut [i32],
 ) -> Result<usize, Refusal> {
-    decoded(sys::walk(table, ticks, inputs, controls, cells, outputs))
+    let block = sys::Block {
+        ticks,
+        inputs,
+        controls,
+        cells,
+        outputs,
+    };
+    decoded(sys::walk(table, block))
 }
 
 /// Runs a flat code for a block of ticks, as [`walk`] does a table; any numbers may be given as code.
@@ -198,5 +205,12 @@ pub fn run(
     cells: &mut [i32],
     outputs: &mut [i32],
 ) -> Result<usize, Refusal> {
-    decoded(sys::run(code, ticks, inputs, controls, cells, outputs))
+    let block = sys::Block {
+        ticks,
+        inputs,
+        controls,
+        cells,
+        outputs,
+    };
+    decoded(sys::run(code, block))
 }

@@ -64,52 +64,52 @@ pub fn load(named: u32, cells: &mut [i32]) -> u64 {
     unsafe { circuit_load(named, cells.as_mut_ptr(), cells.len()) }
 }
 
-pub fn walk(
-    table: &[i32],
-    ticks: u32,
-    inputs: &[i32],
-    controls: &[i32],
-    cells: &mut [i32],
-    outputs: &mut [i32],
-) -> u64 {
+/// What a call of walker or runner lends.
+pub struct Block<'a> {
+    pub ticks: u32,
+    pub inputs: &'a [i32],
+    pub controls: &'a [i32],
+    pub cells: &'a mut [i32],
+    pub outputs: &'a mut [i32],
+}
+
+type Work = unsafe extern "C" fn(
+    *const i32,
+    usize,
+    u32,
+    *const i32,
+    usize,
+    *const i32,
+    usize,
+    *mut i32,
+    usize,
+    *mut i32,
+    usize,
+) -> u64;
+
+/// A block of a program: a table or a code.
+fn worked(work: Work, program: &[i32], block: Block) -> u64 {
     unsafe {
-        circuit_walk(
-            table.as_ptr(),
-            table.len(),
-            ticks,
-            inputs.as_ptr(),
-            inputs.len(),
-            controls.as_ptr(),
-            controls.len(),
-            cells.as_mut_ptr(),
-            cells.len(),
-            outputs.as_mut_ptr(),
-            outputs.len(),
+        work(
+            program.as_ptr(),
+            program.len(),
+            block.ticks,
+            block.inputs.as_ptr(),
+            block.inputs.len(),
+            block.controls.as_ptr(),
+            block.controls.len(),
+            block.cells.as_mut_ptr(),
+            block.cells.len(),
+            block.outputs.as_mut_ptr(),
+            block.outputs.len(),
         )
     }
 }
 
-pub fn run(
-    code: &[i32],
-    ticks: u32,
-    inputs: &[i32],
-    controls: &[i32],
-    cells: &mut [i32],
-    outputs: &mut [i32],
-) -> u64 {
-    unsafe {
-        circuit_run(
-            code.as_ptr(),
-            code.len(),
-            ticks,
-            inputs.as_ptr(),
-            inputs.len(),
-            controls.as_ptr(),
-            controls.len(),
-            cells.as_mut_ptr(),
-            cells.len(),
-            outputs.as_mut_ptr(),
-            outputs.len(),
-        )
-    }
+pub fn walk(table: &[i32], block: Block) -> u64 {
+    worked(circuit_walk, table, block)
+}
+
+pub fn run(code: &[i32], block: Block) -> u64 {
+    worked(circuit_run, code, block)
 }

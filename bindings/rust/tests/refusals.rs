@@ -49,6 +49,32 @@ fn lines() {
     assert_eq!(unread(&good.repeat(513)), refusal(2, 1));
 }
 
+/// "20,993 bytes are enough": what follows them in a file changes neither answer nor table, wherever a line is wrong.
+#[test]
+fn bytes_enough() {
+    let lines = |count: usize| -> String {
+        (0..count)
+            .map(|i| line(&i.to_string(), "5", "0", "0"))
+            .collect()
+    };
+    let mut files = vec![lines(512), lines(513), lines(600), "0".repeat(30000)];
+    for at in [0, 40, 41, 20950, 20990, 20991, 20992, 20993, 21000] {
+        for byte in ["x", "\n", " "] {
+            let mut file = lines(600);
+            file.replace_range(at..at + 1, byte);
+            files.push(file);
+        }
+    }
+    for file in files {
+        let mut tables = [[9; 1536]; 2];
+        let [whole, cut] = &mut tables;
+        let answer = circuit::read(file.as_bytes(), whole);
+        let enough = &file.as_bytes()[..file.len().min(20993)];
+        assert_eq!(circuit::read(enough, cut), answer);
+        assert_eq!(whole, cut);
+    }
+}
+
 #[test]
 fn nodes() {
     assert_eq!(unchecked(&[]), refusal(3, 0));
