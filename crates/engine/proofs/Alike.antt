@@ -14,7 +14,7 @@ use Rattle.arity.specs.Tree.{Tree, ins, outs}
 use Rattle.arity.specs.Nodes.{Complete, cellsBefore}
 use Rattle.arity.specs.Limits.{Small}
 use Rattle.arity.specs.WellFormed.{WellFormed}
-use Rattle.walker.specs.Step.{step}
+use Rattle.calls.specs.Step.{step}
 use Rattle.flat.specs.Code.{encode, codeTick}
 use Rattle.flat.specs.Run.{ran}
 use Rattle.flat.proofs.Encoding.{decode-encode}

@@ -20,11 +20,11 @@ use Rattle.arity.specs.Nodes.{cellsBefore}
 use Rattle.arity.specs.Checked.{Checked}
 use Rattle.arity.specs.Promise.{Words}
 use Rattle.arity.proofs.Promise.{promise}
-use Rattle.walker.specs.Walk.{walks}
-use Rattle.walker.specs.Calls.{Of, OwnOrRefused}
-use Rattle.walker.specs.Law.{LawfulThroughout}
-use Rattle.walker.proofs.Law.{only-of}
-use Rattle.walker.proofs.Throughout.{throughout}
+use Rattle.calls.specs.Calls.{walks}
+use Rattle.calls.specs.Calls.{Of, OwnOrRefused}
+use Rattle.calls.specs.Law.{LawfulThroughout}
+use Rattle.calls.proofs.Law.{only-of}
+use Rattle.calls.proofs.Throughout.{throughout}
 use Rattle.flat.proofs.Refused.{refused-nothing}
 use Rattle.translator.specs.Translated.{translated}
 use Rattle.engine.specs.Runs.{Run, resultOf, callOf, RunOf}

@@ -4,7 +4,7 @@ use mathlib.Core.Path.{_≡_}
 use mathlib.Core.List.{List}
 use Rattle.cells.specs.Block.{Ran}
 use Rattle.flat.specs.Run.{ran}
-use Rattle.walker.specs.Calls.{Call}
+use Rattle.calls.specs.Calls.{Call}
 
 -- a run: its code, "its own block and output buffer", and how many cells it is lent, from the first on
 pub record Run : Type 0 where

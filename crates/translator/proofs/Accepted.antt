@@ -15,7 +15,7 @@ use Rattle.arity.specs.Checked.{Checked}
 use Rattle.arity.specs.Promise.{Promise, Words as TableWords}
 use Rattle.arity.specs.declared.CheckAnswer.the-variants.{Accepted}
 use Rattle.arity.proofs.Promise.{promise}
-use Rattle.walker.proofs.Placing.{all-placed}
+use Rattle.calls.proofs.Placing.{all-placed}
 use Rattle.flat.specs.Flat.{width}
 use Rattle.flat.specs.Code.{encode, numbers}
 use Rattle.flat.specs.Check.{codeOk}

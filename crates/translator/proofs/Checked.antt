@@ -23,9 +23,9 @@ use Rattle.arity.specs.Limits.{Small}
 use Rattle.arity.specs.WellFormed.{WellFormed}
 use Rattle.arity.proofs.Times.{times-whole, times-least}
 use Rattle.signal.specs.Signal.{fill}
-use Rattle.walker.proofs.Holds.{Placed}
-use Rattle.walker.proofs.Placing.{all-placed}
-use Rattle.walker.proofs.Widths.{length-fill}
+use Rattle.calls.proofs.Holds.{Placed}
+use Rattle.calls.proofs.Placing.{all-placed}
+use Rattle.calls.proofs.Widths.{length-fill}
 use Rattle.flat.specs.Flat.{Instruction, instruction}
 use Rattle.flat.specs.Code.{encode}
 use Rattle.flat.specs.Check.{allBelow, instructionOk, instructionsOk, bodyOk, codeOk}

@@ -22,8 +22,8 @@ use Rattle.arity.specs.Tree.Composition.{sequence, parallel, split, merge, recu
 use Rattle.arity.specs.WellFormed.{WellFormed}
 use Rattle.arity.proofs.Times.{times-whole, times-least}
 use Rattle.signal.specs.Signal.{fill, sums, sumFrom, sumsFrom}
-use Rattle.walker.specs.Step.{step}
-use Rattle.walker.proofs.Widths.{step-outs, length-fill, length-sums}
+use Rattle.calls.specs.Step.{step}
+use Rattle.calls.proofs.Widths.{step-outs, length-fill, length-sums}
 use Rattle.flat.specs.Flat.{worked, machine, execute}
 use Rattle.translator.specs.Emit.{writes, upFrom, terms, merges, emit}
 use Rattle.translator.proofs.Registers.{Holds, Reads, kept-length, kept-reads, kept-one, both-append, both-take, both-drop, both-tail, both-copies, both-at, both-head, holds-last, reads-last}

@@ -17,7 +17,7 @@ use Rattle.arity.specs.Tree.Primitive.{number, control, operation, delay, cable
 use Rattle.arity.specs.Tree.Composition.{sequence, parallel, split, merge, recursion}
 use Rattle.arity.specs.WellFormed.{WellFormed}
 use Rattle.signal.specs.Signal.{fill, copies}
-use Rattle.walker.proofs.Holds.{Placed}
+use Rattle.calls.proofs.Holds.{Placed}
 use Rattle.flat.specs.Flat.{Instruction, instruction}
 use Rattle.flat.specs.Code.{numbers}
 use Rattle.translator.specs.Emit.{Emitted, emitted, emit, reads, writes, upFrom, terms, merges}

@@ -12,7 +12,7 @@ use Rattle.arity.specs.Tree.{Tree, Composition, ins}
 use Rattle.arity.specs.Tree.Tree.{join}
 use Rattle.arity.specs.Tree.Composition.{sequence, parallel, split, merge, recursion}
 use Rattle.arity.specs.Table.{kindAt, firstAt, secondAt, compositionOf, tree}
-use Rattle.walker.specs.Step.{step}
+use Rattle.calls.specs.Step.{step}
 use Rattle.walker.specs.Wiring.{firstSide, secondSide, firstInputs, secondInputs, joinOutputs, keptCells}
 use Rattle.walker.specs.Ready.{base, Ready, Joins, joining, leftTree, rightTree, firstChild, secondChild, insOf, outsOf, FirstGiven, SecondGiven, Finished, Ticked}
 

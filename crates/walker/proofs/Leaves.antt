@@ -15,7 +15,7 @@ use Rattle.arity.specs.Tree.Tree.{leaf, ondemand}
 use Rattle.arity.specs.Table.{nodes, kindAt, firstAt, primitiveOf, tree}
 use Rattle.arity.specs.Survey.{rowAt}
 use Rattle.arity.specs.Promise.{Node}
-use Rattle.walker.specs.Step.{step}
+use Rattle.calls.specs.Step.{step}
 use Rattle.walker.specs.Ready.{base, Ready, leftTree, outsOf, Demands, Holding, Ticked}
 
 -- a kind without children that is none of the first five

@@ -22,13 +22,13 @@ use Rattle.arity.specs.Check.{checked}
 use Rattle.arity.specs.Checked.{Checked}
 use Rattle.arity.specs.Promise.{Words}
 use Rattle.arity.proofs.Promise.{promise, same-answer}
-use Rattle.walker.specs.Step.{step}
+use Rattle.calls.specs.Step.{step}
 use Rattle.walker.specs.Walk.{walked, walkedBy, walkedTable}
-use Rattle.walker.specs.Calls.{Of, OwnOrRefused}
-use Rattle.walker.specs.Law.{LawfulThroughout}
+use Rattle.calls.specs.Calls.{Of, OwnOrRefused}
+use Rattle.calls.specs.Law.{LawfulThroughout}
 use Rattle.walker.specs.Walks.{Walk, callOf, WalkOf, resultOf}
-use Rattle.walker.proofs.Law.{only-of}
-use Rattle.walker.proofs.Throughout.{throughout}
+use Rattle.calls.proofs.Law.{only-of}
+use Rattle.calls.proofs.Throughout.{throughout}
 
 -- a refused walk of any table changes nothing
 module _ (w : Walk) (cells : List ℕ) (x : ℕ) (p : ℤ) where

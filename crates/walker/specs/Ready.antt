@@ -11,7 +11,7 @@ use Rattle.arity.specs.Tree.{Tree, Composition, ins, outs}
 use Rattle.arity.specs.Table.{nodes, kindAt, firstAt, secondAt, compositionOf, tree, circuit}
 use Rattle.arity.specs.Nodes.{cellsBefore}
 use Rattle.arity.specs.Promise.{Node, Shaped}
-use Rattle.walker.specs.Step.{step}
+use Rattle.calls.specs.Step.{step}
 use Rattle.walker.specs.Wiring.{firstInputs, secondInputs, joinOutputs, keptCells}
 
 -- the first cell of each node of a table

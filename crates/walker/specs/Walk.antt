@@ -6,7 +6,7 @@ use lib.Dec.{leb}
 use Rattle.word.specs.Choice.{pick}
 use Rattle.refusal.specs.Answer.{Answer, count, refusalOf}
 use Rattle.refusal.specs.Answer.Answer.{counts, refused}
-use Rattle.cells.specs.Block.{Ran, ranAs, unchanged, refusal, answered, called}
+use Rattle.cells.specs.Block.{Ran, ranAs, unchanged, refusal, called}
 use Rattle.arity.specs.Tree.{Tree, ins, outs}
 use Rattle.arity.specs.Table.{nodes, circuit}
 use Rattle.arity.specs.Nodes.{cellsBefore}
@@ -14,16 +14,12 @@ use Rattle.arity.specs.Check.{checked}
 use Rattle.arity.specs.Checked.{LoosePlace}
 use Rattle.walker.specs.declared.WalkAnswer.{WalkAnswer}
 use Rattle.walker.specs.declared.WalkAnswer.the-variants.{Samples, Refused}
-use Rattle.walker.specs.Step.{step}
+use Rattle.calls.specs.Step.{step}
 
 -- the document's answer for each case
 abbrev pub answerOf : WalkAnswer → Answer
 answerOf (Samples n) = count n
 answerOf (Refused r) = refusalOf r
-
--- a call that is not refused, of a circuit t of n nodes
-abbrev pub walks : ℕ → Tree → ℕ → List ℕ → List ℕ → List ℕ → List ℕ → Ran
-walks n t = answered (step (cellsBefore t) t) (ins t) (outs t) (cellsBefore t n)
 
 -- 11, then 14 and 12
 unfoldable pub walked : ℕ → Tree → ℕ → List ℕ → List ℕ → List ℕ → List ℕ → Ran

@@ -4,7 +4,7 @@ use mathlib.Core.Path.{_≡_}
 use mathlib.Core.List.{List}
 use Rattle.cells.specs.Block.{Ran}
 use Rattle.walker.specs.Walk.{walkedTable}
-use Rattle.walker.specs.Calls.{Call}
+use Rattle.calls.specs.Calls.{Call}
 
 -- a walk: its table, the place that refusal 9 would have, its block and output buffer, and how many cells it is lent, from the first on
 pub record Walk : Type 0 where

@@ -15,7 +15,7 @@ use Rattle.arity.proofs.Paths.{has-number, left-not-root, right-not-root, right
 use Rattle.signal.specs.Signal.{History}
 use Rattle.signal.specs.History.{own}
 use Rattle.signal.specs.Contents.{contents, cellsAfter}
-use Rattle.walker.proofs.Holds.{Holds}
+use Rattle.calls.proofs.Holds.{Holds}
 
 -- the cells of node j hold its contents after its own history
 pub node-holds : (base : ℕ → ℕ) (t : Tree) (h : History) (cs : List ℕ) → Distinct t → Holds base t h cs

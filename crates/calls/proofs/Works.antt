@@ -19,9 +19,9 @@ use Rattle.signal.specs.Signal.{History, wire, rewire, fill, sums, demanded, de
 use Rattle.signal.specs.History.{loopRight, loopLeft, leftHistory, rightHistory}
 use Rattle.signal.specs.Contents.{contents}
 use Rattle.signal.proofs.Causal.{causal, width, wire-next, map-next, beside-head, late-first, head-any, loop-right-next, loop-left-next, loop-left, loop-causal}
-use Rattle.walker.specs.Step.{step}
-use Rattle.walker.proofs.Holds.{Owned, Placed, Holds, frame}
-use Rattle.walker.proofs.Ring.{delay-reads, delay-moves}
+use Rattle.calls.specs.Step.{step}
+use Rattle.calls.proofs.Holds.{Owned, Placed, Holds, frame}
+use Rattle.calls.proofs.Ring.{delay-reads, delay-moves}
 
 -- what a tick of t is to leave: the outputs, the cells of t, the other cells, and how many there are
 pub record Right (base : ℕ → ℕ) (t : Tree) (h : History) (f : Tick) (cs : List ℕ) (s : Stepped) : Type 0 where

@@ -20,11 +20,11 @@ use Rattle.arity.specs.Nodes.{Complete, cellsBefore}
 use Rattle.arity.specs.WellFormed.{WellFormed}
 use Rattle.signal.specs.Signal.{History, samples}
 use Rattle.signal.proofs.Causal.{causal}
-use Rattle.walker.specs.Calls.{Call, worked, blockAfter, events, left, heard, heardBy, history, written, OnlyOf, Of, OwnOrRefused}
-use Rattle.walker.specs.Law.{Answers, Keeps, Lawful}
-use Rattle.walker.proofs.Run.{after, walk-right}
-use Rattle.walker.proofs.Plays.{cellsAt}
-use Rattle.walker.proofs.Handled.{Leaves, refused-leaves, own-call}
+use Rattle.calls.specs.Calls.{Call, worked, blockAfter, events, left, heard, heardBy, history, written, OnlyOf, Of, OwnOrRefused}
+use Rattle.calls.specs.Law.{Answers, Keeps, Lawful}
+use Rattle.calls.proofs.Run.{after, walk-right}
+use Rattle.calls.proofs.Plays.{cellsAt}
+use Rattle.calls.proofs.Handled.{Leaves, refused-leaves, own-call}
 
 -- calls of a circuit, and refused ones that write nothing
 module _ (n : ℕ) (t : Tree) {A : Type 0} (call : A → Call) (Own : A → Type 0) (own : (x : A) → Own x → Of n t (call x))

@@ -18,7 +18,7 @@ use Rattle.refusal.specs.Answer.Answer.{refused}
 use Rattle.cells.specs.Block.{ticksOf, blockOk, called}
 use Rattle.arity.specs.Tree.{Tree, ins, outs}
 use Rattle.arity.specs.Nodes.{cellsBefore}
-use Rattle.walker.specs.Calls.{Call, Of, due, cutAfter}
+use Rattle.calls.specs.Calls.{Call, Of, due, cutAfter}
 
 -- a call that rows 14 and 12 decide is never refused by another row
 pub never-13 : (n m k : ℕ) (c : Call) (p : ℤ) → due n m k c ≡ refused 13 p → ⊥

@@ -14,7 +14,7 @@ use Rattle.arity.specs.Nodes.{Numbered, subtree, cellsBefore}
 use Rattle.signal.specs.Signal.{History, samples}
 use Rattle.signal.specs.History.{NoDemand}
 use Rattle.signal.specs.Contents.{cellsAfter}
-use Rattle.walker.specs.Calls.{Call, Event, events, left, history, written, Of, due, cutAfter}
+use Rattle.calls.specs.Calls.{Call, Event, events, left, history, written, Of, due, cutAfter}
 
 -- a call of the circuit t of n nodes gives the answer that is due
 abbrev pub Answers : ℕ → Tree → Event → Type 0

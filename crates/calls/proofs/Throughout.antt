@@ -12,11 +12,11 @@ use Rattle.cells.specs.Load.{loaded}
 use Rattle.arity.specs.Tree.{Tree, ins, outs}
 use Rattle.arity.specs.Nodes.{Complete, cellsBefore}
 use Rattle.arity.specs.WellFormed.{WellFormed}
-use Rattle.walker.specs.Calls.{Call, Event, worked, blockAfter, events, left, heard, heardBy, history, OnlyOf, cutAfter}
-use Rattle.walker.specs.Law.{Answers, Lawful, cutCalls, LawfulCut, AcceptedAfter, LawfulThroughout}
-use Rattle.walker.proofs.Law.{law}
-use Rattle.walker.proofs.Cut.{cut-of, cut-due, cut-adds}
-use Rattle.walker.proofs.QuietCells.{quiet-cells}
+use Rattle.calls.specs.Calls.{Call, Event, worked, blockAfter, events, left, heard, heardBy, history, OnlyOf, cutAfter}
+use Rattle.calls.specs.Law.{Answers, Lawful, cutCalls, LawfulCut, AcceptedAfter, LawfulThroughout}
+use Rattle.calls.proofs.Law.{law}
+use Rattle.calls.proofs.Cut.{cut-of, cut-due, cut-adds}
+use Rattle.calls.proofs.QuietCells.{quiet-cells}
 
 module _ {A : Type 0} (P : A → Type 0) where
   each-before : (xs ys : List A) → Each P (xs ++ ys) → Each P xs

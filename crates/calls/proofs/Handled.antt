@@ -17,11 +17,11 @@ use Rattle.arity.specs.Tree.{Tree, ins, outs}
 use Rattle.arity.specs.Nodes.{Complete, cellsBefore}
 use Rattle.arity.specs.WellFormed.{WellFormed}
 use Rattle.signal.specs.Signal.{History, samples}
-use Rattle.walker.specs.Step.{step}
-use Rattle.walker.specs.Walk.{walks}
-use Rattle.walker.specs.Calls.{Call, worked, heardBy, Of, due}
-use Rattle.walker.proofs.Plays.{cellsAt, cells-long}
-use Rattle.walker.proofs.Walks.{continues}
+use Rattle.calls.specs.Step.{step}
+use Rattle.calls.specs.Calls.{walks}
+use Rattle.calls.specs.Calls.{Call, worked, heardBy, Of, due}
+use Rattle.calls.proofs.Plays.{cellsAt, cells-long}
+use Rattle.calls.proofs.Walks.{continues}
 
 module _ (n : ℕ) (t : Tree) (w : WellFormed t) (c : Complete n t) where
   -- what a call leaves: its buffer past what it wrote, the samples so far, the circuit's cells, and the other cells of the block

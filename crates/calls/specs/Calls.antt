@@ -10,11 +10,11 @@ use Rattle.word.specs.Choice.{pick, _and_}
 use Rattle.word.specs.Tick.{Tick}
 use Rattle.refusal.specs.Answer.{Answer, count, refusedAll}
 use Rattle.refusal.specs.Answer.Answer.{counts, refused}
-use Rattle.cells.specs.Block.{Ran, unchanged, counted, ticksOf, blockOk, called}
+use Rattle.cells.specs.Block.{Ran, unchanged, counted, ticksOf, blockOk, answered, called}
 use Rattle.arity.specs.Tree.{Tree, ins, outs}
 use Rattle.arity.specs.Nodes.{cellsBefore}
 use Rattle.signal.specs.Signal.{History}
-use Rattle.walker.specs.Step.{step}
+use Rattle.calls.specs.Step.{step}
 
 -- a call: its block of ticks, its output buffer, how many cells it is lent, from the first on, and its complete result from any lent cells
 pub record Call : Type 0 where
@@ -67,6 +67,10 @@ history n block cs = reverse (flatten (map (heard n) (events block cs)))
 unfoldable pub written : List ℕ → List Call → List ℕ
 unfolding events flatten
 written block cs = flatten (map wrote (events block cs))
+
+-- a call that is not refused, of a circuit t of n nodes
+abbrev pub walks : ℕ → Tree → ℕ → List ℕ → List ℕ → List ℕ → List ℕ → Ran
+walks n t = answered (step (cellsBefore t) t) (ins t) (outs t) (cellsBefore t n)
 
 -- a call of the circuit t of n nodes: 14 and 12, and its ticks
 unfoldable pub Of : ℕ → Tree → Call → Type 0

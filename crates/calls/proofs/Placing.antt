@@ -9,7 +9,7 @@ use Rattle.arity.specs.Tree.{Tree, size}
 use Rattle.arity.specs.Tree.Tree.{leaf, join, ondemand}
 use Rattle.arity.specs.Nodes.{Apart, Numbered, Distinct, Complete, subtree, Sized, cellsBefore}
 use Rattle.arity.proofs.Sizes.{cells-after-node, sized}
-use Rattle.walker.proofs.Holds.{Owned, Placed}
+use Rattle.calls.proofs.Holds.{Owned, Placed}
 
 module _ (base sizes : ℕ → ℕ) (after : (j k : ℕ) → j < k → base j + sizes j ≤ base k) where
   apart : (i j : ℕ) → i ≢ j → Apart (Among (base i) (sizes i)) (Among (base j) (sizes j))

@@ -18,12 +18,12 @@ use Rattle.signal.specs.Signal.{History}
 use Rattle.signal.specs.History.{own, NoDemand}
 use Rattle.signal.specs.Contents.{contents, cellsAfter}
 use Rattle.signal.proofs.Quiet.{quiet}
-use Rattle.walker.proofs.Placing.{all-placed}
-use Rattle.walker.proofs.Node.{node-holds}
-use Rattle.walker.proofs.Run.{run-right, walk-right}
-use Rattle.walker.specs.Calls.{Call, left, history}
-use Rattle.walker.specs.Law.{Lawful}
-use Rattle.walker.proofs.Plays.{cellsAt, cells-long}
+use Rattle.calls.proofs.Placing.{all-placed}
+use Rattle.calls.proofs.Node.{node-holds}
+use Rattle.calls.proofs.Run.{run-right, walk-right}
+use Rattle.calls.specs.Calls.{Call, left, history}
+use Rattle.calls.specs.Law.{Lawful}
+use Rattle.calls.proofs.Plays.{cellsAt, cells-long}
 
 module _ (n : ℕ) (t : Tree) (w : WellFormed t) (c : Complete n t) where
   -- the cells of node j, in a block that begins with those of a history

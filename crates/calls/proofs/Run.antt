@@ -19,11 +19,11 @@ use Rattle.signal.specs.Signal.{History, signal}
 use Rattle.signal.specs.History.{leftHistory, rightHistory}
 use Rattle.signal.specs.Contents.{contents, ring, cellsAfter}
 use Rattle.signal.proofs.Causal.{causal}
-use Rattle.walker.specs.Step.{step}
-use Rattle.walker.proofs.Holds.{Placed, Holds}
-use Rattle.walker.proofs.Works.{works}
-use Rattle.walker.proofs.Placing.{all-placed}
-use Rattle.walker.proofs.Node.{all-nodes}
+use Rattle.calls.specs.Step.{step}
+use Rattle.calls.proofs.Holds.{Placed, Holds}
+use Rattle.calls.proofs.Works.{works}
+use Rattle.calls.proofs.Placing.{all-placed}
+use Rattle.calls.proofs.Node.{all-nodes}
 
 -- the cells after a history, and the outputs at each of its ticks
 unfoldable pub after : (ℕ → ℕ) → Tree → List ℕ → History → List ℕ

@@ -18,7 +18,7 @@ use Rattle.arity.specs.Tree.Composition.{sequence, parallel, split, merge, recu
 use Rattle.arity.specs.WellFormed.{WellFormed}
 use Rattle.arity.proofs.Times.{times-whole}
 use Rattle.signal.specs.Signal.{copies, fill, sums, sumsFrom, demanded}
-use Rattle.walker.specs.Step.{step}
+use Rattle.calls.specs.Step.{step}
 
 pub length-copies : (k : ℕ) (xs : List ℕ) → length (copies k xs) ≡ k * length xs
 length-copies zero xs = sym (zero-mul (length xs))

@@ -1,0 +1,14 @@
+pub mod Holds
+pub mod Ring
+pub mod Works
+pub mod Placing
+pub mod Node
+pub mod Run
+pub mod Widths
+pub mod Plays
+pub mod Walks
+pub mod Throughout
+pub mod Handled
+pub mod Law
+pub mod Cut
+pub mod QuietCells
