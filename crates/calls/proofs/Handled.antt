@@ -1,11 +1,11 @@
--- One call on a block that holds the cells of a circuit: of the circuit, or refused.
-use Prim.Native.Nat.{ℕ, _*_, _≤_, min}
-use mathlib.Core.Path.{_≡_, refl, sym, ap, _∙_}
+-- One call on a block that holds the cells of a circuit: of the circuit's program, or refused.
+use Prim.Native.Nat.{ℕ, _+_, _*_, _≤_, min}
+use mathlib.Core.Path.{_≡_, refl, sym, ap, ap₂, _∙_}
 use mathlib.Core.Bool.{Bool, true, false}
 use mathlib.Core.List.{List, _++_, reverseAux, append-assoc, append-nil}
 use native.Mathlib.Omega.{arith}
 use lib.IntN.{ℤ}
-use lib.ListN.{length, drop, take, length-take, take-append-drop}
+use lib.ListN.{length, drop, take, length-append, length-take, take-append-drop}
 use lib.Seq.{take-take, take-at, drop-at, drop-append-le}
 use lib.Dec.{leb, leb→le, le→leb}
 use Rattle.word.specs.Choice.{_and_, pick}
@@ -13,93 +13,134 @@ use Rattle.word.proofs.Lists.{first-true, same-test, holds}
 use Rattle.refusal.specs.Answer.{Answer, count, refusedAll}
 use Rattle.refusal.specs.Answer.Answer.{refused}
 use Rattle.cells.specs.Block.{Ran, unchanged, refusal, counted, ticksOf, blockOk, answered, called}
+use Rattle.cells.proofs.Calls as cellCalls
 use Rattle.arity.specs.Tree.{Tree, ins, outs}
 use Rattle.arity.specs.Nodes.{Complete, cellsBefore}
 use Rattle.arity.specs.WellFormed.{WellFormed}
 use Rattle.signal.specs.Signal.{History, samples}
 use Rattle.calls.specs.Step.{step}
-use Rattle.calls.specs.Calls.{walks}
-use Rattle.calls.specs.Calls.{Call, worked, heardBy, Of, due}
+use Rattle.calls.specs.Calls.{Arguments, Call, Program, lentTo, resultOf, blockAfter, ticksAdded, answerTo}
 use Rattle.calls.proofs.Plays.{cellsAt, cells-long}
-use Rattle.calls.proofs.Walks.{continues}
+use Rattle.calls.proofs.Walks.{walks, continues}
 
-module _ (n : ℕ) (t : Tree) (w : WellFormed t) (c : Complete n t) where
-  -- what a call leaves: its buffer past what it wrote, the samples so far, the circuit's cells, and the other cells of the block
-  pub record Leaves (h : History) (block : List ℕ) (call : Call) (r : Ran) : Type 0 where
-    pub keeps : drop (counted (r .answer)) (r .outputs) ≡ drop (counted (r .answer)) (call .outputs)
-    pub meaning : samples t h ++ take (counted (r .answer)) (r .outputs) ≡ samples t (reverseAux (heardBy (ins t) call (r .answer)) h)
-    pub cells : take (cellsBefore t n) (r .cells ++ drop (call .lent) block) ≡ cellsAt n t w c (reverseAux (heardBy (ins t) call (r .answer)) h)
-    pub rest : drop (cellsBefore t n) (r .cells ++ drop (call .lent) block) ≡ drop (cellsBefore t n) block
+-- the program works the circuit t of n nodes: 14 and 12, and its ticks
+abbrev pub IsProgramOf : ℕ → Tree → Program → Type 0
+IsProgramOf n t work = (a : Arguments) (cells : List ℕ)
+    → work a cells ≡ called (step (cellsBefore t) t) (ins t) (outs t) (cellsBefore t n) (a .ticks) (a .inputs) (a .controls) cells (a .outputs)
 
-  module _ (h : History) (block : List ℕ) (u : take (cellsBefore t n) block ≡ cellsAt n t w c h) (call : Call) where
-    pub refused-leaves : (x : ℕ) (p : ℤ) → Leaves h block call (unchanged (refused x p) (take (call .lent) block) (call .outputs))
-    refused-leaves x p =
-        let e = take-append-drop (call .lent) block in
-        record {
-          keeps = refl;
-          meaning = append-nil (samples t h);
-          cells = ap (take (cellsBefore t n)) e ∙ u;
-          rest = ap (drop (cellsBefore t n)) e;
-        }
+module _ (n : ℕ) (t : Tree) (w : WellFormed t) (c : Complete n t) (front behind : List ℕ) where
+  -- the circuit's cells after a history, with those before and behind them
+  abbrev pub around : History → List ℕ
+  around h = front ++ (cellsAt n t w c h ++ behind)
 
-    -- the circuit's own calls: enough is lent if the circuit's cells are
-    room : leb (cellsBefore t n) (length (take (call .lent) block)) ≡ leb (cellsBefore t n) (call .lent)
+  -- what a call leaves after the history h: its buffer past what it wrote, the samples so far, and the block
+  pub record Leaves (h : History) (a : Arguments) (r : Ran) (block : List ℕ) : Type 0 where
+    pub keeps : drop (counted (r .answer)) (r .outputs) ≡ drop (counted (r .answer)) (a .outputs)
+    pub meaning : samples t h ++ take (counted (r .answer)) (r .outputs) ≡ samples t (reverseAux (ticksAdded (ins t) a (r .answer)) h)
+    pub cells : block ≡ around (reverseAux (ticksAdded (ins t) a (r .answer)) h)
+
+  -- a refused call, lent whatever part of the block
+  pub refused-leaves : (h : History) (call : Call) (x : ℕ) (p : ℤ)
+      → resultOf call (around h) ≡ unchanged (refused x p) (lentTo call (around h)) (call .arguments .outputs)
+      → Leaves h (call .arguments) (resultOf call (around h)) (blockAfter call (around h))
+  refused-leaves h call x p e =
+      let b : List ℕ = around h in
+      rw e
+      (record {
+        keeps = refl;
+        meaning = append-nil (samples t h);
+        cells = ap (λ xs. take (call .from) b ++ xs) (take-append-drop (call .arguments .lent) (drop (call .from) b)) ∙ take-append-drop (call .from) b;
+      })
+
+  module _ (h : History) (a : Arguments) where
+    abbrev N : ℕ
+    N = cellsBefore t n
+
+    -- the block from the circuit's cells on, and what the call is lent of it
+    abbrev tail : List ℕ
+    tail = cellsAt n t w c h ++ behind
+
+    abbrev given : List ℕ
+    given = take (a .lent) tail
+
+    -- enough is lent if the circuit's cells are
+    room : leb N (length given) ≡ leb N (a .lent)
     room =
-        let e : min (cellsBefore t n) (length block) ≡ cellsBefore t n = sym (length-take (cellsBefore t n) block) ∙ ap length u ∙ cells-long n t w c h in
-        let N : ℕ = cellsBefore t n in
-        let l : length (take (call .lent) block) ≡ min (call .lent) (length block) = length-take (call .lent) block in
-        same-test (leb N (length (take (call .lent) block))) (leb N (call .lent))
-        (λ g. let k = leb→le N (length (take (call .lent) block)) g in le→leb N (call .lent) (omega arith))
-        (λ g. let k = leb→le N (call .lent) g in le→leb N (length (take (call .lent) block)) (omega arith))
-
-    -- any call of the circuit: the answer that is due, and what it leaves
-    pub record Handles (r : Ran) (a : Answer) : Type 0 where
-      pub answer : r .answer ≡ a
-      pub leaves : Leaves h block call r
-
-    -- the two tests of rows 14 and 12
-    abbrev blockTest : Bool
-    blockTest = blockOk (ins t) (call .ticks) (call .inputs) (call .controls)
-
-    abbrev roomTest : Bool
-    roomTest = leb (cellsBefore t n) (call .lent) and leb (call .ticks * outs t) (length (call .outputs))
+        let l : length given ≡ min (a .lent) (length tail) = length-take (a .lent) tail in
+        let k : length tail ≡ N + length behind = length-append (cellsAt n t w c h) behind ∙ ap (λ x. x + length behind) (cells-long n t w c h) in
+        same-test (leb N (length given)) (leb N (a .lent))
+        (λ g. let u = leb→le N (length given) g in le→leb N (a .lent) (omega arith))
+        (λ g. let u = leb→le N (a .lent) g in le→leb N (length given) (omega arith))
 
     abbrev run : Ran
-    run = walks n t (call .ticks) (call .inputs) (call .controls) (take (call .lent) block) (call .outputs)
+    run = walks n t (a .ticks) (a .inputs) (a .controls) given (a .outputs)
 
     abbrev no : ℕ → Ran
-    no x = refusal x (take (call .lent) block) (call .outputs)
+    no x = refusal x given (a .outputs)
 
-    -- an accepted one
-    accepted-leaves : cellsBefore t n ≤ call .lent → Leaves h block call run
+    abbrev after : Ran → List ℕ
+    after r = front ++ (r .cells ++ drop (a .lent) tail)
+
+    accepted-leaves : N ≤ a .lent → Leaves h a run (after run)
     unfolding answered
     accepted-leaves enough =
-        let N : ℕ = cellsBefore t n in
-        let lentCells : List ℕ = take (call .lent) block in
-        let k = continues n t w c h (call .ticks) (call .inputs) (call .controls) lentCells (call .outputs) (take-take N (call .lent) block enough ∙ u) in
-        let cs : List ℕ = cellsAt n t w c (reverseAux (ticksOf (ins t) (call .controls) (call .ticks) (call .inputs)) h) in
-        let l : length cs ≡ N = cells-long n t w c _ in
-        let a : run .cells ++ drop (call .lent) block ≡ cs ++ (drop N lentCells ++ drop (call .lent) block) =
-        ap (λ xs. xs ++ drop (call .lent) block) (k .cells-after) ∙ append-assoc cs (drop N lentCells) (drop (call .lent) block) in
-        let m : N ≤ length lentCells = leb→le N _ (rw room (le→leb N (call .lent) enough)) in
+        let cs : List ℕ = cellsAt n t w c h in
+        let long : length cs ≡ N = cells-long n t w c h in
+        let k = continues n t w c h (a .ticks) (a .inputs) (a .controls) given (a .outputs) (take-take N (a .lent) tail enough ∙ take-at cs behind N long) in
+        let new : List ℕ = cellsAt n t w c (reverseAux (ticksOf (ins t) (a .controls) (a .ticks) (a .inputs)) h) in
+        let m : N ≤ length given = leb→le N _ (rw room (le→leb N (a .lent) enough)) in
+        let rest : drop N given ++ drop (a .lent) tail ≡ behind =
+        sym (drop-append-le N given (drop (a .lent) tail) m) ∙ ap (drop N) (take-append-drop (a .lent) tail) ∙ drop-at cs behind N long in
         record {
           keeps = k .keeps;
           meaning = k .meaning;
-          cells = ap (take N) a ∙ take-at cs (drop N lentCells ++ drop (call .lent) block) N l;
-          rest = ap (drop N) a ∙ drop-at cs (drop N lentCells ++ drop (call .lent) block) N l
-              ∙ sym (drop-append-le N lentCells (drop (call .lent) block) m) ∙ ap (drop N) (take-append-drop (call .lent) block);
+          cells = ap (λ xs. front ++ (xs ++ drop (a .lent) tail)) (k .cells-after)
+              ∙ ap (λ xs. front ++ xs) (append-assoc new (drop N given) (drop (a .lent) tail) ∙ ap (λ xs. new ++ xs) rest);
         }
 
-    tested : (x y : Bool) → roomTest ≡ y → Handles (pick x (pick y run (no 12)) (no 14)) (pick x (pick y (count (call .ticks * outs t)) (refusedAll 12)) (refusedAll 14))
-    unfolding answered
-    tested true true q = record { answer = refl; leaves = accepted-leaves (leb→le (cellsBefore t n) (call .lent) (holds _ (first-true (leb (cellsBefore t n) (call .lent)) _ q))) }
-    tested true false q = record { answer = refl; leaves = refused-leaves 12 _ }
-    tested false y q = record { answer = refl; leaves = refused-leaves 14 _ }
+    no-leaves : (x : ℕ) → Leaves h a (no x) (after (no x))
+    no-leaves x = record { keeps = refl; meaning = append-nil (samples t h); cells = ap (λ xs. front ++ xs) (take-append-drop (a .lent) tail) }
 
-    tests : Of n t call → worked call block ≡ pick blockTest (pick roomTest run (no 12)) (no 14)
-    unfolding Of called
-    tests own = own (take (call .lent) block) ∙ rw room
+    -- any call of the program: its answer, and what it leaves
+    pub record Handles (r : Ran) (block : List ℕ) : Type 0 where
+      pub answer : r .answer ≡ answerTo (ins t) (outs t) (cellsBefore t n) a
+      pub leaves : Leaves h a r block
 
-    pub own-call : Of n t call → Handles (worked call block) (due (ins t) (outs t) (cellsBefore t n) call)
-    unfolding due
-    own-call own = rw (tests own) (tested blockTest roomTest refl)
+    -- the two tests of rows 14 and 12
+    abbrev blockTest : Bool
+    blockTest = blockOk (ins t) (a .ticks) (a .inputs) (a .controls)
+
+    abbrev roomTest : Bool
+    roomTest = leb N (a .lent) and leb (a .ticks * outs t) (length (a .outputs))
+
+    abbrev tested : Bool → Bool → Ran
+    tested x y = pick x (pick y run (no 12)) (no 14)
+
+    by-tests : (x y : Bool) → blockTest ≡ x → roomTest ≡ y → Handles (tested x y) (after (tested x y))
+    unfolding answered answerTo
+    by-tests true true p q = record { answer = rw (p, q); leaves = accepted-leaves (leb→le N (a .lent) (holds _ (first-true (leb N (a .lent)) _ q))) }
+    by-tests true false p q = record { answer = rw (p, q); leaves = no-leaves 12 }
+    by-tests false y p q = record { answer = rw p; leaves = no-leaves 14 }
+
+    module _ (work : Program) (same : IsProgramOf n t work) (at : ℕ) (long : length front ≡ at) where
+      abbrev own : Call
+      own = record { arguments = a; from = at; work = work a }
+
+      lent-from : lentTo own (around h) ≡ given
+      lent-from = ap (take (a .lent)) (drop-at front tail at long)
+
+      tests : resultOf own (around h) ≡ tested blockTest roomTest
+      unfolding called
+      tests = ap (work a) lent-from ∙ same a given ∙ rw room
+
+      after-own : blockAfter own (around h) ≡ after (resultOf own (around h))
+      after-own = ap₂ {C = List ℕ} (λ x y. x ++ (resultOf own (around h) .cells ++ drop (a .lent) y)) (take-at front tail at long) (drop-at front tail at long)
+
+      pub own-call : Handles (resultOf own (around h)) (blockAfter own (around h))
+      own-call = rw (after-own, tests) (by-tests blockTest roomTest refl refl)
+
+-- a refused call of the program
+pub own-nothing : (n : ℕ) (t : Tree) (work : Program) → IsProgramOf n t work → (a : Arguments) (cells : List ℕ) (x : ℕ) (p : ℤ)
+    → work a cells .answer ≡ refused x p → work a cells ≡ unchanged (refused x p) cells (a .outputs)
+own-nothing n t work same a cells x p =
+    rw (same a cells) (cellCalls.refused-nothing (step (cellsBefore t) t) (ins t) (outs t) (cellsBefore t n) (a .ticks) (a .inputs) (a .controls) cells (a .outputs) x p)

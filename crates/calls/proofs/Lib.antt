@@ -7,8 +7,9 @@ pub mod Run
 pub mod Widths
 pub mod Plays
 pub mod Walks
-pub mod Throughout
 pub mod Handled
 pub mod Law
+pub mod Loads
 pub mod Cut
 pub mod QuietCells
+pub mod Throughout

@@ -1,22 +1,26 @@
 -- The law of a list of calls, of its cut after any tick, and of ticks without demand.
-use Prim.Native.Nat.{ℕ, suc, _*_, _≤_}
+use Prim.Native.Nat.{ℕ, suc, _*_, _≤_, _<_}
 use mathlib.Core.Path.{_≡_, refl, sym, ap, _∙_}
 use mathlib.Core.List.{List, [], _∷_, _++_, map, map-append, reverse, reverseAux, reverseAux-append, flatten, append-assoc, append-nil}
-use mathlib.Core.Logic.{inl}
 use native.Mathlib.Omega.{arith}
-use lib.ListN.{take}
-use Rattle.word.specs.Tick.{Tick, Each}
+use lib.ListN.{length, drop, take}
+use Rattle.word.specs.Tick.{Tick, Each, zeros}
+use Rattle.word.proofs.Lists.{flatten-last}
 use Rattle.word.proofs.Each.{each-append}
 use Rattle.refusal.specs.Answer.{Answer, count}
-use Rattle.cells.specs.Load.{loaded}
+use Rattle.cells.specs.Block.{ticksOf}
 use Rattle.arity.specs.Tree.{Tree, ins, outs}
 use Rattle.arity.specs.Nodes.{Complete, cellsBefore}
 use Rattle.arity.specs.WellFormed.{WellFormed}
-use Rattle.calls.specs.Calls.{Call, Event, worked, blockAfter, events, left, heard, heardBy, history, OnlyOf, cutAfter}
-use Rattle.calls.specs.Law.{Answers, Lawful, cutCalls, LawfulCut, AcceptedAfter, LawfulThroughout}
+use Rattle.signal.specs.Signal.{History}
+use Rattle.calls.specs.Calls as calls
+use Rattle.calls.specs.Calls.{Arguments, Element, Event, Program, RefusedIfOther, argumentsOf, lentTo, resultOf, blockAfter, callOf, events, left, ticksAdded, addedBy, OthersRefused, tickOf, firstTicks}
+use Rattle.calls.specs.Calls.Element.{own}
+use Rattle.calls.specs.Law.{Answered, Lawful, history, cutAfter, TickByTick, AcceptedAfter, LawfulThroughout}
+use Rattle.calls.proofs.Handled.{IsProgramOf}
 use Rattle.calls.proofs.Law.{law}
-use Rattle.calls.proofs.Cut.{cut-of, cut-due, cut-adds}
-use Rattle.calls.proofs.QuietCells.{quiet-cells}
+use Rattle.calls.proofs.Cut.{cut-accepted, whole-cut, adds-next}
+use Rattle.calls.proofs.QuietCells.{quiet-tick}
 
 module _ {A : Type 0} (P : A → Type 0) where
   each-before : (xs ys : List A) → Each P (xs ++ ys) → Each P xs
@@ -27,62 +31,69 @@ module _ {A : Type 0} (P : A → Type 0) where
   each-after [] ys p = p
   each-after (x ∷ xs) ys (p, ps) = each-after xs ys ps
 
-flatten-append : {A : Type 0} (xs ys : List (List A)) → flatten (xs ++ ys) ≡ flatten xs ++ flatten ys
-unfolding flatten
-flatten-append [] ys = refl
-flatten-append (x ∷ xs) ys = ap (λ zs. x ++ zs) (flatten-append xs ys) ∙ sym (append-assoc x (flatten xs) (flatten ys))
+module _ (work : Program) (at : ℕ) where
+  eventOf : List ℕ → Element → Event
+  eventOf block x = record { element = x; given = lentTo (callOf work at x) block; result = resultOf (callOf work at x) block }
 
-events-append : (block : List ℕ) (xs ys : List Call) → events block (xs ++ ys) ≡ events block xs ++ events (left block xs) ys
-unfolding events left
-events-append block [] ys = refl
-events-append block (x ∷ xs) ys = ap (λ es. record { call = x; given = take (x .lent) block; result = worked x block } ∷ es) (events-append (blockAfter x block) xs ys)
+  events-append : (block : List ℕ) (xs ys : List Element) → events work at block (xs ++ ys) ≡ events work at block xs ++ events work at (left work at block xs) ys
+  unfolding events left eventOf
+  events-append block [] ys = refl
+  events-append block (x ∷ xs) ys = ap (λ es. eventOf block x ∷ es) (events-append (blockAfter (callOf work at x) block) xs ys)
 
--- one call more
-history-more : (m : ℕ) (block : List ℕ) (before : List Call) (c : Call)
-    → history m block (before ++ c ∷ []) ≡ reverseAux (heardBy m c (worked c (left block before) .answer)) (history m block before)
-unfolding history events flatten
-history-more m block before c =
-    let es : List Event = events block before in
-    let new : List Tick = heardBy m c (worked c (left block before) .answer) in
-    let old : List Tick = flatten (map (heard m) es) in
-    ap (λ xs. reverse (flatten (map (heard m) xs))) (events-append block before (c ∷ []))
-    ∙ ap (λ xs. reverse (flatten xs)) (map-append (heard m) es _)
-    ∙ ap reverse (flatten-append (map (heard m) es) (new ∷ []) ∙ ap (λ xs. old ++ xs) (append-nil new))
-    ∙ reverseAux-append old new []
+  -- one call more
+  history-more : (m : ℕ) (block : List ℕ) (before : List Element) (x : Element)
+      → calls.history work at m block (before ++ x ∷ []) ≡ reverseAux (addedBy m (eventOf (left work at block before) x)) (calls.history work at m block before)
+  unfolding calls.history events flatten eventOf
+  history-more m block before x =
+      let es : List Event = events work at block before in
+      let new : List Tick = addedBy m (eventOf (left work at block before) x) in
+      ap (λ xs. reverse (flatten (map (addedBy m) xs))) (events-append block before (x ∷ []))
+      ∙ ap (λ xs. reverse (flatten xs)) (map-append (addedBy m) es _)
+      ∙ ap reverse (flatten-last (map (addedBy m) es) new)
+      ∙ reverseAux-append (flatten (map (addedBy m) es)) new []
 
-module _ (n : ℕ) (t : Tree) (w : WellFormed t) (c : Complete n t) (named : ℕ) (cells : List ℕ) (e : loaded named cells .answer ≡ count named) (enough : cellsBefore t n ≤ named) where
-  abbrev block : List ℕ
-  block = loaded named cells .cells
+module _ (n : ℕ) (t : Tree) (w : WellFormed t) (c : Complete n t) (work : Program) (same : IsProgramOf n t work) (at : ℕ) (block : List ℕ) (fits : at ≤ length block)
+    (cleared : take (cellsBefore t n) (drop at block) ≡ zeros (cellsBefore t n)) (list : List Element) (o : OthersRefused work at block list) where
+  module _ (before : List Element) (a : Arguments) (p : AcceptedAfter n t work at list before a) where
+    abbrev cutAt : ℕ → List Element
+    cutAt j = cutAfter n t work at before a j
 
-  module _ (calls : List Call) (o : Each (OnlyOf n t) (events block calls)) where
-    module _ (before : List Call) (d : Call) (a : AcceptedAfter n t calls before d) (j : ℕ) (h : j ≤ d .ticks) where
-      lawful-cut : Lawful n t block (cutCalls n t before d j)
-      unfolding events
-      lawful-cut =
-          law n t w c named cells e enough (cutCalls n t before d j)
-          (rw (events-append block before (cutAfter n t j d ∷ []))
-          (each-append (OnlyOf n t) (events block before) _ (each-before (OnlyOf n t) (events block before) _ (rw (a .stands, events-append block before (d ∷ a .after)) at o)) (inl (cut-of n t (a .samples) j d (a .accepted) h), tt)))
+    others-refused : (j : ℕ) → OthersRefused work at block (cutAt j)
+    unfolding OthersRefused events
+    others-refused j =
+        let P : Event → Type 0 = λ e. RefusedIfOther (e .element) (e .given) in
+        rw (events-append work at block before (own (firstTicks (ins t) a j) ∷ []))
+        (each-append P (events work at block before) _ (each-before P (events work at block before) _ (rw (p .stands, events-append work at block before (own a ∷ p .after)) at o)) (tt, tt))
 
-      cut-answer : worked (cutAfter n t j d) (left block before) .answer ≡ count (j * outs t)
-      unfolding events
-      cut-answer =
-          each-after (Answers n t) (events block before) _ (rw (events-append block before (cutAfter n t j d ∷ [])) at (lawful-cut .answers)) .0 (cut-of n t (a .samples) j d (a .accepted) h)
-          ∙ cut-due n t (a .samples) j d (a .accepted) h
+    lawful-cut : (j : ℕ) → Lawful n t work at block (cutAt j)
+    lawful-cut j = law n t w c work same at block fits cleared (cutAt j) (others-refused j)
 
-      cut : LawfulCut n t block before d j
-      cut =
-          record {
-            lawful = lawful-cut;
-            ticks = history-more (ins t) block before (cutAfter n t j d)
-                ∙ ap (λ (x : Answer). reverseAux (heardBy (ins t) (cutAfter n t j d) x) (history (ins t) block before)) cut-answer
-                ∙ ap (λ fs. reverseAux fs (history (ins t) block before)) (cut-adds n t (a .samples) j d (a .accepted) h);
-          }
+    cut-history : (j : ℕ) → j ≤ a .ticks → history n t work at block (cutAt j) ≡ reverseAux (ticksOf (ins t) (a .controls) j (take (j * ins t) (a .inputs))) (history n t work at block before)
+    unfolding events eventOf
+    cut-history j h =
+        let x : Element = own (firstTicks (ins t) a j) in
+        let answer = each-after (λ e. Answered n t work at (e .element) (e .result .answer)) (events work at block before) _ (rw (events-append work at block before (x ∷ [])) at (lawful-cut j .answers)) .0 in
+        history-more work at (ins t) block before x
+        ∙ ap (λ (y : Answer). reverseAux (ticksAdded (ins t) (firstTicks (ins t) a j) y) (history n t work at block before))
+        (answer ∙ cut-accepted (ins t) (outs t) (cellsBefore t n) (a .ticks * outs t) a (p .accepted) j h)
 
-    pub throughout : LawfulThroughout n t block calls
-    throughout =
+    next : (j : ℕ) → j < a .ticks → history n t work at block (cutAt (suc j)) ≡ tickOf (ins t) a j ∷ history n t work at block (cutAt j)
+    next j h =
+        let past : History = history n t work at block before in
+        cut-history (suc j) h
+        ∙ adds-next (ins t) (outs t) (cellsBefore t n) (a .ticks * outs t) a (p .accepted) j h past
+        ∙ ap {B = History} (λ x. tickOf (ins t) a j ∷ x) (sym (cut-history j (omega arith)))
+
+    tick-by-tick : TickByTick n t work at block before a
+    tick-by-tick =
         record {
-          whole = law n t w c named cells e enough calls o;
-          cuts = cut;
-          quiet = λ before d a j h f g i b m s q k z.
-              quiet-cells n t w c block (cutCalls n t before d j) (cutCalls n t before d (suc j)) (lawful-cut before d a j (omega arith)) (lawful-cut before d a (suc j) (omega arith)) f g i b m s q k z;
+          cut = λ j h. lawful-cut j;
+          first = cut-history 0 (omega arith);
+          next = next;
+          last = whole-cut (ins t) (outs t) (cellsBefore t n) (a .ticks * outs t) a (p .accepted);
+          quiet = λ j h i b m s q.
+              quiet-tick n t w c work at block fits (cutAt j) (cutAt (suc j)) (lawful-cut j) (lawful-cut (suc j)) (tickOf (ins t) a j) (next j h) i b m s q;
         }
+
+  pub throughout : LawfulThroughout n t work at block list
+  throughout = record { whole = law n t w c work same at block fits cleared list o; tickByTick = tick-by-tick }

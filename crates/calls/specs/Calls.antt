@@ -1,112 +1,121 @@
--- A list of calls of walker or runner on one block of cells, each lent the cells as the last left them.
+-- A list of calls on one block of cells, each lent a part of it as the last left it.
 use Prim.Native.Nat.{ℕ, _*_}
 use mathlib.Core.Path.{_≡_}
-use mathlib.Core.Logic.{_⊎_}
 use mathlib.Core.List.{List, [], _∷_, _++_, map, reverse, flatten}
 use lib.IntN.{ℤ}
 use lib.ListN.{length, drop, take}
 use lib.Dec.{leb}
 use Rattle.word.specs.Choice.{pick, _and_}
-use Rattle.word.specs.Tick.{Tick}
+use Rattle.word.specs.Tick.{Tick, tick, Each}
 use Rattle.refusal.specs.Answer.{Answer, count, refusedAll}
 use Rattle.refusal.specs.Answer.Answer.{counts, refused}
-use Rattle.cells.specs.Block.{Ran, unchanged, counted, ticksOf, blockOk, answered, called}
-use Rattle.arity.specs.Tree.{Tree, ins, outs}
-use Rattle.arity.specs.Nodes.{cellsBefore}
+use Rattle.cells.specs.Block.{Ran, unchanged, counted, ticksOf, blockOk}
 use Rattle.signal.specs.Signal.{History}
-use Rattle.calls.specs.Step.{step}
 
--- a call: its block of ticks, its output buffer, how many cells it is lent, from the first on, and its complete result from any lent cells
-pub record Call : Type 0 where
+-- "A call brings ticks (0 to 4,096), inputs and outputs tick after tick, and 16 control values that hold for the call", and is lent some cells
+pub record Arguments : Type 0 where
   pub ticks : ℕ
   pub inputs : List ℕ
   pub controls : List ℕ
   pub outputs : List ℕ
   pub lent : ℕ
+
+-- a call of any kind: its arguments, the first cell that it is lent, and its complete result from the lent cells, whatever they hold
+pub record Call : Type 0 where
+  pub arguments : Arguments
+  pub from : ℕ
   pub work : List ℕ → Ran
 
--- a call and what came of it
-pub record Event : Type 0 where
-  pub call : Call
-  pub given : List ℕ
-  pub result : Ran
+abbrev pub lentTo : Call → List ℕ → List ℕ
+lentTo c block = take (c .arguments .lent) (drop (c .from) block)
 
-abbrev pub worked : Call → List ℕ → Ran
-worked c block = c .work (take (c .lent) block)
+abbrev pub resultOf : Call → List ℕ → Ran
+resultOf c block = c .work (lentTo c block)
 
 -- the block after a call: only the lent cells can have changed
 abbrev pub blockAfter : Call → List ℕ → List ℕ
-blockAfter c block = worked c block .cells ++ drop (c .lent) block
+blockAfter c block = take (c .from) block ++ (resultOf c block .cells ++ drop (c .arguments .lent) (drop (c .from) block))
 
-unfoldable pub events : List ℕ → List Call → List Event
-events block [] = []
-events block (c ∷ cs) = record { call = c; given = take (c .lent) block; result = worked c block } ∷ events (blockAfter c block) cs
-
--- the block that the list leaves
-unfoldable pub left : List ℕ → List Call → List ℕ
-left block [] = block
-left block (c ∷ cs) = left (blockAfter c block) cs
-
--- the ticks that a call adds to the history, n inputs to a tick: those of an accepted one, and none of a refused one
-abbrev pub heardBy : ℕ → Call → Answer → List Tick
-heardBy n c (counts ks) = ticksOf n (c .controls) (c .ticks) (c .inputs)
-heardBy n c (refused r p) = []
-
-abbrev pub heard : ℕ → Event → List Tick
-heard n e = heardBy n (e .call) (e .result .answer)
-
--- the samples that a call wrote
-abbrev pub wrote : Event → List ℕ
-wrote e = take (counted (e .result .answer)) (e .result .outputs)
-
--- the history of the list, the latest tick first, and all that it wrote, the first sample first
-unfoldable pub history : ℕ → List ℕ → List Call → History
-unfolding events flatten
-history n block cs = reverse (flatten (map (heard n) (events block cs)))
-
-unfoldable pub written : List ℕ → List Call → List ℕ
-unfolding events flatten
-written block cs = flatten (map wrote (events block cs))
-
--- a call that is not refused, of a circuit t of n nodes
-abbrev pub walks : ℕ → Tree → ℕ → List ℕ → List ℕ → List ℕ → List ℕ → Ran
-walks n t = answered (step (cellsBefore t) t) (ins t) (outs t) (cellsBefore t n)
-
--- a call of the circuit t of n nodes: 14 and 12, and its ticks
-unfoldable pub Of : ℕ → Tree → Call → Type 0
-Of n t c = (cells : List ℕ)
-    → c .work cells ≡ called (step (cellsBefore t) t) (ins t) (outs t) (cellsBefore t n) (c .ticks) (c .inputs) (c .controls) cells (c .outputs)
-
--- a call that was refused: it has written nothing
-pub record Refused (e : Event) : Type 0 where
+-- a call that these cells are lent to is refused, and has written nothing: they and its output buffer are as they were
+pub record Refused (c : Call) (cells : List ℕ) : Type 0 where
   pub number : ℕ
   pub place : ℤ
-  pub nothing : e .result ≡ unchanged (refused number place) (e .given) (e .call .outputs)
+  pub nothing : c .work cells ≡ unchanged (refused number place) cells (c .arguments .outputs)
 
--- every call is of the circuit or is refused
-abbrev pub OnlyOf : ℕ → Tree → Event → Type 0
-OnlyOf n t e = Of n t (e .call) ⊎ Refused e
+-- in the list of a circuit: a call of its own program, or any other call
+pub data Element : Type 0 where
+  own : Arguments → Element
+  other : Call → Element
 
--- each call is one of Own, or is refused: "any other refused calls may lie between"
-unfoldable pub OwnOrRefused : {A : Type 0} → (A → Call) → (A → Type 0) → List ℕ → List A → Type 0
-OwnOrRefused call Own block [] = Unit {0}
-OwnOrRefused call Own block (x ∷ xs) =
-    (Own x ⊎ ((r : ℕ) × (p : ℤ) × (worked (call x) block .answer ≡ refused r p))) × OwnOrRefused call Own (blockAfter (call x) block) xs
+abbrev pub argumentsOf : Element → Arguments
+argumentsOf (own a) = a
+argumentsOf (other c) = c .arguments
 
--- the answer that rows 14 and 12 ask for, of a circuit with n inputs, m outputs and k cells
-unfoldable pub due : (n m k : ℕ) → Call → Answer
-due n m k c =
-    pick (blockOk n (c .ticks) (c .inputs) (c .controls))
-    (pick (leb k (c .lent) and leb (c .ticks * m) (length (c .outputs))) (count (c .ticks * m)) (refusedAll 12))
+-- an element of the list, the cells that it was lent, and what came of it
+pub record Event : Type 0 where
+  pub element : Element
+  pub given : List ℕ
+  pub result : Ran
+
+-- "Any other refused calls, runs of other code included, may lie between."
+abbrev pub RefusedIfOther : Element → List ℕ → Type 0
+RefusedIfOther (own a) cells = Unit {0}
+RefusedIfOther (other c) cells = Refused c cells
+
+-- the ticks that a call adds to the history, n inputs to a tick: those of an accepted one, and none of a refused one
+abbrev pub ticksAdded : ℕ → Arguments → Answer → List Tick
+ticksAdded n a (counts ks) = ticksOf n (a .controls) (a .ticks) (a .inputs)
+ticksAdded n a (refused r p) = []
+
+abbrev pub addedBy : ℕ → Event → List Tick
+addedBy n e = ticksAdded n (argumentsOf (e .element)) (e .result .answer)
+
+-- the samples that a call wrote
+abbrev pub writtenBy : Event → List ℕ
+writtenBy e = take (counted (e .result .answer)) (e .result .outputs)
+
+-- what works the circuit: the complete result from any arguments and lent cells
+abbrev pub Program : Type 0
+Program = Arguments → List ℕ → Ran
+
+-- the program's calls are lent cells from `at` on
+module _ (work : Program) (at : ℕ) where
+  abbrev pub callOf : Element → Call
+  callOf (own a) = record { arguments = a; from = at; work = work a }
+  callOf (other c) = c
+
+  unfoldable pub events : List ℕ → List Element → List Event
+  events block [] = []
+  events block (x ∷ xs) = record { element = x; given = lentTo (callOf x) block; result = resultOf (callOf x) block } ∷ events (blockAfter (callOf x) block) xs
+
+  -- the block that the list leaves
+  unfoldable pub left : List ℕ → List Element → List ℕ
+  left block [] = block
+  left block (x ∷ xs) = left (blockAfter (callOf x) block) xs
+
+  -- the history of the list, n inputs to a tick, the latest tick first; and all that it wrote, the first sample first
+  unfoldable pub history : ℕ → List ℕ → List Element → History
+  unfolding events flatten
+  history n block xs = reverse (flatten (map (addedBy n) (events block xs)))
+
+  unfoldable pub written : List ℕ → List Element → List ℕ
+  unfolding events flatten
+  written block xs = flatten (map writtenBy (events block xs))
+
+  unfoldable pub OthersRefused : List ℕ → List Element → Type 0
+  unfolding events
+  OthersRefused block xs = Each (λ e. RefusedIfOther (e .element) (e .given)) (events block xs)
+
+-- "refused exactly where row 14 or 12 says so", else the count of its samples: the answer of a circuit with n inputs, m outputs and k cells
+unfoldable pub answerTo : (n m k : ℕ) → Arguments → Answer
+answerTo n m k a =
+    pick (blockOk n (a .ticks) (a .inputs) (a .controls))
+    (pick (leb k (a .lent) and leb (a .ticks * m) (length (a .outputs))) (count (a .ticks * m)) (refusedAll 12))
     (refusedAll 14)
 
--- a call of the circuit t of n nodes, cut after j of its ticks: "the cells after a tick are those that the list leaves when it is cut after that tick"
-abbrev pub cutAfter : ℕ → Tree → ℕ → Call → Call
-cutAfter n t j c = record {
-  ticks = j;
-  inputs = take (j * ins t) (c .inputs);
-  controls = c .controls;
-  outputs = c .outputs;
-  lent = c .lent;
-  work = λ cells. called (step (cellsBefore t) t) (ins t) (outs t) (cellsBefore t n) j (take (j * ins t) (c .inputs)) (c .controls) cells (c .outputs);
-}
+-- tick j of a call, n inputs to a tick, and the call cut after its first j ticks
+abbrev pub tickOf : ℕ → Arguments → ℕ → Tick
+tickOf n a j = tick (take n (drop (j * n) (a .inputs))) (a .controls)
+
+abbrev pub firstTicks : ℕ → Arguments → ℕ → Arguments
+firstTicks n a j = record { ticks = j; inputs = take (j * n) (a .inputs); controls = a .controls; outputs = a .outputs; lent = a .lent }

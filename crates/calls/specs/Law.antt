@@ -1,72 +1,96 @@
 -- The law of a list of calls, as one claim about the whole list.
-use Prim.Native.Nat.{ℕ, suc, _≤_, _<_}
+use Prim.Native.Nat.{ℕ, suc, _+_, _*_, _≤_, _<_}
 use mathlib.Core.Path.{_≡_}
 use mathlib.Core.Logic.{_⊎_}
-use mathlib.Core.List.{List, [], _∷_, _++_, reverseAux}
-use lib.ListN.{drop, take}
-use Rattle.word.specs.Tick.{Tick, Each}
-use Rattle.refusal.specs.Answer.{count}
+use mathlib.Core.List.{List, [], _∷_, _++_}
+use lib.IntN.{ℤ}
+use lib.ListN.{length, drop, take}
+use Rattle.word.specs.Tick.{Tick, Beam, Each, headOr, zeros}
+use Rattle.refusal.specs.Answer.{Answer, count}
+use Rattle.refusal.specs.Answer.Answer.{refused}
 use Rattle.cells.specs.Cells.{part}
-use Rattle.cells.specs.Block.{counted, ticksOf}
+use Rattle.cells.specs.Block.{unchanged, counted}
 use Rattle.arity.specs.Tree.{Tree, ins, outs, size}
 use Rattle.arity.specs.Tree.Tree.{ondemand}
 use Rattle.arity.specs.Nodes.{Numbered, subtree, cellsBefore}
-use Rattle.signal.specs.Signal.{History, samples}
-use Rattle.signal.specs.History.{NoDemand}
+use Rattle.signal.specs.Signal.{History, signal, samples, demands}
+use Rattle.signal.specs.History.{own as ownHistory, NoDemand}
 use Rattle.signal.specs.Contents.{cellsAfter}
-use Rattle.calls.specs.Calls.{Call, Event, events, left, history, written, Of, due, cutAfter}
+use Rattle.calls.specs.Calls as calls
+use Rattle.calls.specs.Calls.{Arguments, Element, Event, Program, argumentsOf, events, left, written, answerTo, tickOf, firstTicks}
+use Rattle.calls.specs.Calls.Element.{own, other}
 
--- a call of the circuit t of n nodes gives the answer that is due
-abbrev pub Answers : ℕ → Tree → Event → Type 0
-Answers n t e = Of n t (e .call) → e .result .answer ≡ due (ins t) (outs t) (cellsBefore t n) (e .call)
+-- "a refused one .. writes nothing": the cells that it was lent and its output buffer are as they were
+abbrev pub RefusedWroteNothing : Event → Type 0
+RefusedWroteNothing e = (x : ℕ) (p : ℤ) → e .result .answer ≡ refused x p → e .result ≡ unchanged (refused x p) (e .given) (argumentsOf (e .element) .outputs)
 
--- past what it wrote, a call keeps its output buffer
-abbrev pub Keeps : Event → Type 0
-Keeps e = drop (counted (e .result .answer)) (e .result .outputs) ≡ drop (counted (e .result .answer)) (e .call .outputs)
+-- "A buffer longer than needed keeps its content past the needed part."
+abbrev pub KeptRest : Event → Type 0
+KeptRest e = drop (counted (e .result .answer)) (e .result .outputs) ≡ drop (counted (e .result .answer)) (argumentsOf (e .element) .outputs)
 
--- of a circuit t of n nodes, over the calls on this block
-pub record Lawful (n : ℕ) (t : Tree) (block : List ℕ) (calls : List Call) : Type 0 where
-  -- a call of the circuit is refused exactly where row 14 or 12 says so, and answers with the count of its samples otherwise
-  pub answers : Each (Answers n t) (events block calls)
-  -- a refused call writes nothing into its buffer, an accepted one only its samples
-  pub buffers : Each Keeps (events block calls)
-  -- what the calls wrote, in order, is the meaning of the whole history
-  pub meaning : written block calls ≡ samples t (history (ins t) block calls)
-  -- the cells are those of the history, and the cells past them are untouched
-  pub cells : left block calls ≡ cellsAfter n t (history (ins t) block calls) ++ drop (cellsBefore t n) block
+-- the circuit t of n nodes, whose program is `work`; its cells stand in the block from `at` on
+module _ (n : ℕ) (t : Tree) (work : Program) (at : ℕ) where
+  abbrev pub answerOf : Arguments → Answer
+  answerOf a = answerTo (ins t) (outs t) (cellsBefore t n) a
 
--- the calls before c, and c cut after j of its ticks
-abbrev pub cutCalls : ℕ → Tree → List Call → Call → ℕ → List Call
-cutCalls n t before c j = before ++ cutAfter n t j c ∷ []
+  abbrev pub Answered : Element → Answer → Type 0
+  Answered (own a) answer = answer ≡ answerOf a
+  Answered (other c) answer = Unit {0}
 
--- the ticks that a list adds when it is cut there, the latest first
-abbrev pub cutHistory : ℕ → Tree → List ℕ → List Call → Call → ℕ → History
-cutHistory n t block before c j = history (ins t) block (cutCalls n t before c j)
+  abbrev pub history : List ℕ → List Element → History
+  history block list = calls.history work at (ins t) block list
 
--- the cells of node k of t in a block
-abbrev pub cellsOfNode : Tree → ℕ → List ℕ → List ℕ
-cellsOfNode t k block = part (cellsBefore t k) (size (subtree t k)) block
+  pub record Lawful (block : List ℕ) (list : List Element) : Type 0 where
+    -- each call of the program "is refused exactly where row 14 or 12 says so"; an accepted one "answers with their count"
+    pub answers : Each (λ e. Answered (e .element) (e .result .answer)) (events work at block list)
+    pub refusals : Each RefusedWroteNothing (events work at block list)
+    pub buffers : Each KeptRest (events work at block list)
+    -- the samples that the accepted calls wrote are, in order, the meaning's over all their ticks
+    pub meaning : written work at block list ≡ samples t (history block list)
+    -- each cell holds what the document gives for it after these ticks; the cells before and behind those of the circuit are as they were
+    pub cells : left work at block list ≡ take at block ++ (cellsAfter n t (history block list) ++ drop (cellsBefore t n) (drop at block))
 
--- the list cut inside an accepted call c: the law holds of it, and its history ends with the j-th tick of c
-pub record LawfulCut (n : ℕ) (t : Tree) (block : List ℕ) (before : List Call) (c : Call) (j : ℕ) : Type 0 where
-  pub lawful : Lawful n t block (cutCalls n t before c j)
-  pub ticks : cutHistory n t block before c j ≡ reverseAux (take j (ticksOf (ins t) (c .controls) (c .ticks) (c .inputs))) (history (ins t) block before)
+  -- the cells of node k after the list
+  abbrev pub nodeCells : List ℕ → List Element → ℕ → List ℕ
+  nodeCells block list k = part (at + cellsBefore t k) (size (subtree t k)) (left work at block list)
 
--- c is a call of the circuit in the list, after `before`, and is accepted
-pub record AcceptedAfter (n : ℕ) (t : Tree) (calls before : List Call) (c : Call) : Type 0 where
-  pub after : List Call
-  pub stands : calls ≡ before ++ c ∷ after
-  pub own : Of n t c
-  pub samples : ℕ
-  pub accepted : due (ins t) (outs t) (cellsBefore t n) c ≡ count samples
+  -- the outputs of the ondemand i with the body b at its latest own tick, 0 where there is none
+  abbrev pub latestOutputs : ℕ → Tree → History → Beam
+  latestOutputs i b h = headOr (zeros (outs b)) (signal (ondemand i b) (ownHistory t h i))
 
--- the whole claim: the law of the list, of its cut after any tick, and of ticks without demand
-pub record LawfulThroughout (n : ℕ) (t : Tree) (block : List ℕ) (calls : List Call) : Type 0 where
-  pub whole : Lawful n t block calls
-  pub cuts : (before : List Call) (c : Call) → AcceptedAfter n t calls before c → (j : ℕ) → j ≤ c .ticks → LawfulCut n t block before c j
-  -- where tick f brings no demand to the body b of the ondemand i, it changes no cell of i and of the nodes of b
-  pub quiet : (before : List Call) (c : Call) → AcceptedAfter n t calls before c → (j : ℕ) → j < c .ticks
-      → (f : Tick) → cutHistory n t block before c (suc j) ≡ f ∷ cutHistory n t block before c j
-      → (i : ℕ) (b : Tree) → Numbered t i → subtree t i ≡ ondemand i b → NoDemand t i f (cutHistory n t block before c j)
-      → (k : ℕ) → (i ≡ k) ⊎ Numbered b k
-      → cellsOfNode t k (left block (cutCalls n t before c (suc j))) ≡ cellsOfNode t k (left block (cutCalls n t before c j))
+  -- two lists, the second with one tick more, at which no demand reaches the body b of the ondemand i
+  pub record Quiet (block : List ℕ) (list more : List Element) (i : ℕ) (b : Tree) : Type 0 where
+    -- "none of its cells change": those of each node in it, and the ondemand's own
+    pub cells : (k : ℕ) → (i ≡ k) ⊎ Numbered b k → nodeCells block more k ≡ nodeCells block list k
+    -- "the outputs held for it", in the ondemand's cells, "repeat, or are 0 if none has reached it yet"
+    pub held : nodeCells block list i ≡ latestOutputs i b (history block list)
+    pub repeated : latestOutputs i b (history block more) ≡ latestOutputs i b (history block list)
+    pub zero : length (demands (ownHistory t (history block list) i)) ≡ 0 → latestOutputs i b (history block more) ≡ zeros (outs b)
+
+  -- the list with its calls from a on left out, and then with a call of the first j ticks of a
+  abbrev pub cutAfter : List Element → Arguments → ℕ → List Element
+  cutAfter before a j = before ++ own (firstTicks (ins t) a j) ∷ []
+
+  -- an accepted call a of the program after the calls `before`, tick by tick
+  pub record TickByTick (block : List ℕ) (before : List Element) (a : Arguments) : Type 0 where
+    -- "The cells after a tick are those that the list leaves when it is cut after that tick."
+    pub cut : (j : ℕ) → j ≤ a .ticks → Lawful block (cutAfter before a j)
+    -- cut before its first tick the list has the history of the calls before; each tick adds itself; cut after the last tick the call is whole
+    pub first : history block (cutAfter before a 0) ≡ history block before
+    pub next : (j : ℕ) → j < a .ticks → history block (cutAfter before a (suc j)) ≡ tickOf (ins t) a j ∷ history block (cutAfter before a j)
+    pub last : firstTicks (ins t) a (a .ticks) ≡ a
+    -- "At a tick when no demand reaches an on-demand body, .."
+    pub quiet : (j : ℕ) → j < a .ticks → (i : ℕ) (b : Tree) → Numbered t i → subtree t i ≡ ondemand i b
+        → NoDemand t i (tickOf (ins t) a j) (history block (cutAfter before a j))
+        → Quiet block (cutAfter before a j) (cutAfter before a (suc j)) i b
+
+  -- the list has the accepted call a of the program after the calls `before`
+  pub record AcceptedAfter (list before : List Element) (a : Arguments) : Type 0 where
+    pub after : List Element
+    pub stands : list ≡ before ++ own a ∷ after
+    pub accepted : answerOf a ≡ count (a .ticks * outs t)
+
+  -- the whole claim
+  pub record LawfulThroughout (block : List ℕ) (list : List Element) : Type 0 where
+    pub whole : Lawful block list
+    pub tickByTick : (before : List Element) (a : Arguments) → AcceptedAfter list before a → TickByTick block before a
