@@ -6,7 +6,6 @@ use mathlib.Core.Bool.{Bool, true, false}
 use mathlib.Core.List.{List, [], _∷_, _++_, reverseAux, reverseAux-append}
 use native.Mathlib.Nat.{mul-le-mul-right, suc-mul, zero-mul}
 use native.Mathlib.Omega.{arith}
-use lib.IntN.{ℤ}
 use lib.ListN.{length, drop, take, length-drop}
 use lib.Seq.{length-take-le, take-take, take-add, take-all, drop-at, drop-drop}
 use lib.Dec.{leb}
@@ -15,20 +14,9 @@ use Rattle.word.specs.Choice.{_and_, pick}
 use Rattle.word.specs.Tick.{Tick, tick}
 use Rattle.word.proofs.Lists.{both-true, first-true, second-true}
 use Rattle.refusal.specs.Answer.{count, refusedAll}
-use Rattle.refusal.specs.Answer.Answer.{refused}
 use Rattle.cells.specs.Block.{ticksOf, blockOk}
 use Rattle.cells.proofs.Calls.{Block, block-says}
 use Rattle.calls.specs.Calls.{Arguments, answerTo, tickOf, firstTicks}
-
--- a call that rows 14 and 12 decide is never refused by another row
-pub never-13 : (n m k : ℕ) (a : Arguments) (p : ℤ) → answerTo n m k a ≡ refused 13 p → ⊥
-unfolding answerTo
-never-13 n m k a p e = go (blockOk n (a .ticks) (a .inputs) (a .controls)) (leb k (a .lent) and leb (a .ticks * m) (length (a .outputs))) e
-  where
-    go : (x y : Bool) → pick x (pick y (count (a .ticks * m)) (refusedAll 12)) (refusedAll 14) ≡ refused 13 p → ⊥
-    go true true g = let z : _≡_ {A = ℕ} 0 1 = cc in omega arith
-    go true false g = let z : _≡_ {A = ℕ} 12 13 = cc in omega arith
-    go false y g = let z : _≡_ {A = ℕ} 14 13 = cc in omega arith
 
 -- what an accepted call has passed
 record Accepts (n m k : ℕ) (a : Arguments) : Type 0 where

@@ -1,18 +1,17 @@
 -- Any list of walks of an accepted table, on cells that a load has cleared: the samples and the cells of the meaning.
 use Prim.Native.Nat.{ℕ, _≤_}
-use mathlib.Core.Path.{_≡_, ap}
+use mathlib.Core.Path.{_≡_, sym, ap, _∙_}
 use mathlib.Core.Bool.{Bool, true, false}
-use mathlib.Core.List.{List, map}
+use mathlib.Core.List.{List}
 use native.Mathlib.Omega.{arith}
 use lib.IntN.{ℤ}
 use lib.Dec.{leb}
 use Rattle.word.specs.Choice.{pick}
 use Rattle.word.proofs.Lists.{is-most}
-use Rattle.refusal.specs.Answer.{Answer, count}
+use Rattle.refusal.specs.Answer.{Answer}
 use Rattle.refusal.specs.Answer.Answer.{counts, refused}
 use Rattle.cells.specs.Block.{Ran, unchanged, refusal, called}
 use Rattle.cells.proofs.Calls as calls
-use Rattle.cells.specs.Load.{loaded}
 use Rattle.arity.specs.declared.CheckAnswer.{CheckAnswer}
 use Rattle.arity.specs.declared.CheckAnswer.the-variants.{Accepted}
 use Rattle.arity.specs.Tree.{Tree, ins, outs}
@@ -23,53 +22,58 @@ use Rattle.arity.specs.Checked.{Checked}
 use Rattle.arity.specs.Promise.{Words}
 use Rattle.arity.proofs.Promise.{promise, same-answer}
 use Rattle.calls.specs.Step.{step}
-use Rattle.walker.specs.Walk.{walked, walkedBy, walkedTable}
-use Rattle.calls.specs.Calls.{Of, OwnOrRefused}
-use Rattle.calls.specs.Law.{LawfulThroughout}
-use Rattle.walker.specs.Walks.{Walk, callOf, WalkOf, resultOf}
-use Rattle.calls.proofs.Law.{only-of}
+use Rattle.calls.specs.Calls.{Arguments, Refused}
+use Rattle.calls.proofs.Handled.{IsProgramOf}
+use Rattle.calls.proofs.Loads.{cleared}
 use Rattle.calls.proofs.Throughout.{throughout}
+use Rattle.walker.specs.Walk.{walked, walkedBy, walkedTable}
+use Rattle.walker.specs.Walks.{walkOf, walkCall, Walks}
 
--- a refused walk of any table changes nothing
-module _ (w : Walk) (cells : List ℕ) (x : ℕ) (p : ℤ) where
+-- a refused walk of any table changes nothing: it is one of the calls that may lie between
+module _ (table : List ℕ) (a : Arguments) (cells : List ℕ) (x : ℕ) (p : ℤ) where
   abbrev n : ℕ
-  n = nodes (w .table)
+  n = nodes table
 
   abbrev t : Tree
-  t = circuit (w .table)
+  t = circuit table
 
-  circuit-nothing : walked n t (w .ticks) (w .inputs) (w .controls) cells (w .outputs) .answer ≡ refused x p
-      → walked n t (w .ticks) (w .inputs) (w .controls) cells (w .outputs) ≡ unchanged (refused x p) cells (w .outputs)
+  circuit-nothing : walked n t (a .ticks) (a .inputs) (a .controls) cells (a .outputs) .answer ≡ refused x p
+      → walked n t (a .ticks) (a .inputs) (a .controls) cells (a .outputs) ≡ unchanged (refused x p) cells (a .outputs)
   unfolding walked
   circuit-nothing = go (leb (cellsBefore t n) 16384)
     where
       result : Bool → Ran
-      result a = pick a (called (step (cellsBefore t) t) (ins t) (outs t) (cellsBefore t n) (w .ticks) (w .inputs) (w .controls) cells (w .outputs)) (refusal 11 cells (w .outputs))
+      result b = pick b (called (step (cellsBefore t) t) (ins t) (outs t) (cellsBefore t n) (a .ticks) (a .inputs) (a .controls) cells (a .outputs)) (refusal 11 cells (a .outputs))
 
-      go : (a : Bool) → result a .answer ≡ refused x p → result a ≡ unchanged (refused x p) cells (w .outputs)
-      go true g = calls.refused-nothing (step (cellsBefore t) t) (ins t) (outs t) (cellsBefore t n) (w .ticks) (w .inputs) (w .controls) cells (w .outputs) x p g
-      go false g = ap (λ z. unchanged z cells (w .outputs)) g
+      go : (b : Bool) → result b .answer ≡ refused x p → result b ≡ unchanged (refused x p) cells (a .outputs)
+      go true g = calls.refused-nothing (step (cellsBefore t) t) (ins t) (outs t) (cellsBefore t n) (a .ticks) (a .inputs) (a .controls) cells (a .outputs) x p g
+      go false g = ap (λ z. unchanged z cells (a .outputs)) g
 
-  pub refused-nothing : resultOf w cells .answer ≡ refused x p → resultOf w cells ≡ unchanged (refused x p) cells (w .outputs)
+  walk-nothing : (q : ℕ) → walkOf q table a cells .answer ≡ refused x p → walkOf q table a cells ≡ unchanged (refused x p) cells (a .outputs)
   unfolding walkedTable
-  refused-nothing = go (checked (w .place) (w .table))
+  walk-nothing q = go (checked q table)
     where
-      go : (a : Answer) → walkedBy a (w .table) (w .ticks) (w .inputs) (w .controls) cells (w .outputs) .answer ≡ refused x p
-          → walkedBy a (w .table) (w .ticks) (w .inputs) (w .controls) cells (w .outputs) ≡ unchanged (refused x p) cells (w .outputs)
+      go : (b : Answer) → walkedBy b table (a .ticks) (a .inputs) (a .controls) cells (a .outputs) .answer ≡ refused x p
+          → walkedBy b table (a .ticks) (a .inputs) (a .controls) cells (a .outputs) ≡ unchanged (refused x p) cells (a .outputs)
       go (counts ks) g = circuit-nothing g
-      go (refused y q) g = ap (λ z. unchanged z cells (w .outputs)) g
+      go (refused y z) g = ap (λ z. unchanged z cells (a .outputs)) g
 
--- an accepted table of at most 16,384 cells; cells that a load has cleared for it, whatever they held before; any list of its walks, and refused walks between
-module _ (table : List ℕ) (answer : CheckAnswer) (n m i d : ℕ) (k : Checked table answer) (e : answer ≡ Accepted n m i d) (words : Words table) (few : d ≤ 16384) where
-  own-walk : (w : Walk) → WalkOf table w → Of (nodes table) (circuit table) (callOf w)
-  unfolding Of walkedTable walked
-  own-walk w f cells =
-      rw (f, same-answer k e (w .place), is-most (cellsBefore (circuit table) (nodes table)) 16384 (omega (arith, promise k e words .celled)))
+  pub refused-walk : (q from : ℕ) → walkOf q table a cells .answer ≡ refused x p → Refused (walkCall q table a from) cells
+  refused-walk q from e = record { number = x; place = p; nothing = walk-nothing q e }
 
-  pub walks-lawful : (named : ℕ) (cells : List ℕ) → loaded named cells .answer ≡ count named → d ≤ named
-      → (ws : List Walk) → OwnOrRefused callOf (WalkOf table) (loaded named cells .cells) ws
-      → LawfulThroughout (nodes table) (circuit table) (loaded named cells .cells) (map callOf ws)
-  walks-lawful named cells f enough ws o =
-      let p = promise k e words in
-      throughout (nodes table) (circuit table) (p .wellFormed) (p .complete) named cells f (omega (arith, p .celled)) (map callOf ws)
-      (only-of (nodes table) (circuit table) callOf (WalkOf table) own-walk refused-nothing (loaded named cells .cells) ws o)
+-- with an accepted table the place of refusal 9 plays no part
+pub any-place : {table : List ℕ} {answer : CheckAnswer} {n m i d : ℕ} → Checked table answer → answer ≡ Accepted n m i d → (p q : ℕ) → walkedTable p table ≡ walkedTable q table
+unfolding walkedTable
+any-place {table} k e p q = ap (λ b. walkedBy b table) (same-answer k e p ∙ sym (same-answer k e q))
+
+own-walk : {table : List ℕ} {answer : CheckAnswer} {n m i d : ℕ} → Checked table answer → answer ≡ Accepted n m i d → Words table → d ≤ 16384 → (p : ℕ)
+    → IsProgramOf (nodes table) (circuit table) (walkOf p table)
+unfolding walkedTable walked
+own-walk {table} k e words few p a cells =
+    rw (same-answer k e p, is-most (cellsBefore (circuit table) (nodes table)) 16384 (omega (arith, promise k e words .celled)))
+
+pub walks-lawful : (table : List ℕ) → Walks table
+walks-lawful table answer n m i d k e words few named cells f enough p list o =
+    let g = promise k e words in
+    throughout (nodes table) (circuit table) (g .wellFormed) (g .complete) (walkOf p table) (own-walk k e words few p) 0 _ (omega arith)
+    (cleared named cells f (cellsBefore (circuit table) (nodes table)) (omega (arith, g .celled))) list o

@@ -1,28 +1,30 @@
--- Walks in a list of calls.
-use Prim.Native.Nat.{ℕ}
+-- Walks in a list of calls: what demand 2 says of them.
+use Prim.Native.Nat.{ℕ, _≤_}
 use mathlib.Core.Path.{_≡_}
 use mathlib.Core.List.{List}
-use Rattle.cells.specs.Block.{Ran}
+use Rattle.refusal.specs.Answer.{count}
+use Rattle.cells.specs.Load.{loaded}
+use Rattle.arity.specs.declared.CheckAnswer.{CheckAnswer}
+use Rattle.arity.specs.declared.CheckAnswer.the-variants.{Accepted}
+use Rattle.arity.specs.Table.{nodes, circuit}
+use Rattle.arity.specs.Checked.{Checked}
+use Rattle.arity.specs.Promise.{Words}
+use Rattle.calls.specs.Calls.{Arguments, Call, Program, Element, OthersRefused}
+use Rattle.calls.specs.Law.{LawfulThroughout}
 use Rattle.walker.specs.Walk.{walkedTable}
-use Rattle.calls.specs.Calls.{Call}
 
--- a walk: its table, the place that refusal 9 would have, its block and output buffer, and how many cells it is lent, from the first on
-pub record Walk : Type 0 where
-  pub table : List ℕ
-  pub place : ℕ
-  pub ticks : ℕ
-  pub inputs : List ℕ
-  pub controls : List ℕ
-  pub outputs : List ℕ
-  pub lent : ℕ
+-- the walker with a table; p is the place with refusal 9
+abbrev pub walkOf : ℕ → List ℕ → Program
+walkOf p table a cells = walkedTable p table (a .ticks) (a .inputs) (a .controls) cells (a .outputs)
 
--- the walker's complete result from the cells that the walk is lent
-abbrev pub resultOf : Walk → List ℕ → Ran
-resultOf w cells = walkedTable (w .place) (w .table) (w .ticks) (w .inputs) (w .controls) cells (w .outputs)
+-- a walk, lent cells from `from` on
+abbrev pub walkCall : ℕ → List ℕ → Arguments → ℕ → Call
+walkCall p table a from = record { arguments = a; from = from; work = walkOf p table a }
 
-abbrev pub callOf : Walk → Call
-callOf w = record { ticks = w .ticks; inputs = w .inputs; controls = w .controls; outputs = w .outputs; lent = w .lent; work = resultOf w }
-
--- a walk of this table
-abbrev pub WalkOf : List ℕ → Walk → Type 0
-WalkOf table w = w .table ≡ table
+-- "For an accepted table of at most 16,384 cells, from cleared cells that walks of that table alone write, the walker writes, tick by tick, the samples that
+-- the published signal meaning gives, ondemand included."
+abbrev pub Walks : List ℕ → Type 0
+Walks table = (answer : CheckAnswer) (n m i d : ℕ) → Checked table answer → answer ≡ Accepted n m i d → Words table → d ≤ 16384
+    → (named : ℕ) (cells : List ℕ) → loaded named cells .answer ≡ count named → d ≤ named
+    → (p : ℕ) (list : List Element) → OthersRefused (walkOf p table) 0 (loaded named cells .cells) list
+    → LawfulThroughout (nodes table) (circuit table) (walkOf p table) 0 (loaded named cells .cells) list
