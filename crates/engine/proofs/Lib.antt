@@ -1,2 +1,3 @@
 pub mod Alike
 pub mod Demand3
+pub mod Borders
