@@ -18,3 +18,4 @@ mod Judging
 mod Next
 mod End
 mod Samples
+mod Borders

@@ -1,4 +1,4 @@
--- A tick without demand: nothing in an ondemand's body changes, and what is held is given again.
+-- A tick without demand: nothing in an ondemand's body changes, and what is held stands.
 use Prim.Native.Nat.{ℕ}
 use mathlib.Core.Path.{_≡_, refl, sym, ap, _∙_}
 use mathlib.Core.Bool.{Bool, true, false}
@@ -35,17 +35,13 @@ module _ (t b : Tree) (d : Distinct t) (i : ℕ) (m : Numbered t i) (s : subtree
       own-through t d h i m j (rw s (inr n))
       ∙ rw (s, body-not-root i j b (rw s at (subtree-distinct t d i m)) n)
 
-  -- what the ondemand holds after a history, and what it gives at its latest tick
+  -- what the ondemand holds after a history
   abbrev latestDemand : History → Beam
   latestDemand h = headOr (zeros (outs b)) (signal b h)
 
   holds : (h : History) → contents (subtree t i) h ≡ latestDemand (demands h)
   unfolding contents
   holds h = rw s
-
-  gives : (g : Tick) (h : History) → headOr [] (signal (subtree t i) (g ∷ h)) ≡ latestDemand (demands (g ∷ h))
-  unfolding signal
-  gives g h = rw s
 
   none-yet : (h : History) → length h ≡ 0 → latestDemand h ≡ zeros (outs b)
   none-yet [] e = rw (causal b .empty)
@@ -57,8 +53,7 @@ module _ (t b : Tree) (d : Distinct t) (i : ℕ) (m : Numbered t i) (s : subtree
     pub body : (j : ℕ) → Numbered b j → contents (subtree t j) (own t (f ∷ h) j) ≡ contents (subtree t j) (own t h j)
     -- the outputs held in the ondemand's cells
     pub held : contents (subtree t i) (own t (f ∷ h) i) ≡ contents (subtree t i) (own t h i)
-    -- its outputs, where the tick is one of its own, are those held, and 0 where there was no demand yet
-    pub again : (g : Tick) → own t (f ∷ h) i ≡ g ∷ own t h i → headOr [] (signal (subtree t i) (own t (f ∷ h) i)) ≡ contents (subtree t i) (own t h i)
+    -- 0 where there was no demand yet
     pub before : length (demands (own t h i)) ≡ 0 → contents (subtree t i) (own t h i) ≡ zeros (outs b)
 
   pub quiet : (f : Tick) (h : History) → NoDemand t i f h → Quiet f h
@@ -67,6 +62,5 @@ module _ (t b : Tree) (d : Distinct t) (i : ℕ) (m : Numbered t i) (s : subtree
       record {
         body = λ j n. ap (contents (subtree t j)) (body-own (f ∷ h) j n ∙ ap (λ x. own b x j) e ∙ sym (body-own h j n));
         held = holds (own t (f ∷ h) i) ∙ ap latestDemand e ∙ sym (holds (own t h i));
-        again = λ g k. ap (λ x. headOr [] (signal (subtree t i) x)) k ∙ gives g (own t h i) ∙ ap latestDemand (sym (ap demands k) ∙ e) ∙ sym (holds (own t h i));
         before = λ l. holds (own t h i) ∙ none-yet (demands (own t h i)) l;
       }

@@ -1,6 +1,6 @@
 -- Any list of walks of an accepted table, on cells that a load has cleared: the samples and the cells of the meaning.
 use Prim.Native.Nat.{ℕ, _≤_}
-use mathlib.Core.Path.{_≡_, sym, ap, _∙_}
+use mathlib.Core.Path.{_≡_, refl, sym, ap, _∙_}
 use mathlib.Core.Bool.{Bool, true, false}
 use mathlib.Core.List.{List}
 use native.Mathlib.Omega.{arith}
@@ -8,9 +8,10 @@ use lib.IntN.{ℤ}
 use lib.Dec.{leb}
 use Rattle.word.specs.Choice.{pick}
 use Rattle.word.proofs.Lists.{is-most}
-use Rattle.refusal.specs.Answer.{Answer}
+use Rattle.refusal.specs.Answer.{Answer, count}
 use Rattle.refusal.specs.Answer.Answer.{counts, refused}
 use Rattle.cells.specs.Block.{Ran, unchanged, refusal, called}
+use Rattle.cells.specs.Load.{loaded}
 use Rattle.cells.proofs.Calls as calls
 use Rattle.arity.specs.declared.CheckAnswer.{CheckAnswer}
 use Rattle.arity.specs.declared.CheckAnswer.the-variants.{Accepted}
@@ -22,7 +23,8 @@ use Rattle.arity.specs.Checked.{Checked}
 use Rattle.arity.specs.Promise.{Words}
 use Rattle.arity.proofs.Promise.{promise, same-answer}
 use Rattle.calls.specs.Step.{step}
-use Rattle.calls.specs.Calls.{Arguments, Refused}
+use Rattle.calls.specs.Calls.{Arguments, Refused, Element, OthersRefused}
+use Rattle.calls.specs.Law.{LawfulThroughout}
 use Rattle.calls.proofs.Handled.{IsProgramOf}
 use Rattle.calls.proofs.Loads.{cleared}
 use Rattle.calls.proofs.Throughout.{throughout}
@@ -77,3 +79,9 @@ walks-lawful table answer n m i d k e words few named cells f enough p list o =
     let g = promise k e words in
     throughout (nodes table) (circuit table) (g .wellFormed) (g .complete) (walkOf p table) (own-walk k e words few p) 0 _ (omega arith)
     (cleared named cells f (cellsBefore (circuit table) (nodes table)) (omega (arith, g .celled))) list o
+
+-- at the border, 16,384 cells and a load that named just these, whatever the count of instructions: a premise that asked for more would fail here
+largest-walks : (table : List ℕ) (n m i : ℕ) → Checked table (Accepted n m i 16384) → Words table → (cells : List ℕ) → loaded 16384 cells .answer ≡ count 16384
+    → (p : ℕ) (list : List Element) → OthersRefused (walkOf p table) 0 (loaded 16384 cells .cells) list
+    → LawfulThroughout (nodes table) (circuit table) (walkOf p table) 0 (loaded 16384 cells .cells) list
+largest-walks table n m i k words cells f = walks-lawful table _ n m i 16384 k refl words (omega arith) 16384 cells f (omega arith)
