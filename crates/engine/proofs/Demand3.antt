@@ -1,15 +1,17 @@
 -- Demand 3, proved for every table.
 use Prim.Native.Nat.{ℕ, _*_, _≤_}
-use mathlib.Core.Path.{_≡_, sym, ap, _∙_}
+use mathlib.Core.Path.{_≡_, refl, sym, ap, _∙_}
 use mathlib.Core.Bool.{Bool, true, false}
 use mathlib.Core.List.{List}
 use native.Mathlib.Omega.{arith}
 use lib.IntN.{ℤ}
-use lib.ListN.{length}
+use lib.ListN.{length, take}
 use lib.Dec.{leb}
 use Rattle.word.specs.Choice.{_and_, pick}
+use Rattle.refusal.specs.Answer.{count}
 use Rattle.refusal.specs.Answer.Answer.{refused}
 use Rattle.cells.specs.Block.{Ran, refusal, blockOk, answered, called}
+use Rattle.cells.specs.Load.{loaded}
 use Rattle.arity.specs.declared.CheckAnswer.{CheckAnswer}
 use Rattle.arity.specs.declared.CheckAnswer.the-variants.{Accepted}
 use Rattle.arity.specs.Tree.{ins, outs}
@@ -18,13 +20,17 @@ use Rattle.arity.specs.Nodes.{cellsBefore}
 use Rattle.arity.specs.Checked.{Checked}
 use Rattle.arity.specs.Promise.{Words}
 use Rattle.arity.proofs.Promise.{promise}
-use Rattle.calls.specs.Calls.{Arguments, Refused}
+use Rattle.calls.specs.Calls.{Arguments, Refused, Element, OthersRefused}
+use Rattle.calls.specs.Law.{LawfulThroughout}
 use Rattle.calls.proofs.Handled.{IsProgramOf}
 use Rattle.calls.proofs.Walks.{walks}
 use Rattle.calls.proofs.Loads.{cleared}
 use Rattle.calls.proofs.Throughout.{throughout}
 use Rattle.flat.proofs.Refused.{refused-nothing}
+use Rattle.translator.specs.declared.TranslateAnswer.{TranslateAnswer}
 use Rattle.translator.specs.Translated.{translated}
+use Rattle.translator.specs.Translate.{answerOf, Translates}
+use Rattle.translator.proofs.Delivered.{is-delivered, was-accepted, delivered}
 use Rattle.engine.specs.Runs.{runOf, runCall}
 use Rattle.engine.specs.Demand3.{Demand3}
 use Rattle.engine.proofs.Alike.{run-is-walk}
@@ -58,3 +64,14 @@ demand-3 table answer n m i d k e words li ld named cells f enough list o =
     let p = promise k e words in
     throughout (nodes table) (circuit table) (p .wellFormed) (p .complete) (runOf (translated table)) (own-run table answer n m i d k e words li ld) 0 _ (omega arith)
     (cleared named cells f (cellsBefore (circuit table) (nodes table)) (omega (arith, p .celled))) list o
+
+-- the same of the numbers that `translate` has written, wherever it answers with a count
+pub delivered-runs : {table code code′ : List ℕ} {a : TranslateAnswer} (t : Translates table code a code′) (c : ℕ) → answerOf a ≡ count c → Words table
+    → (named : ℕ) (cells : List ℕ) → loaded named cells .answer ≡ count named → cellsBefore (circuit table) (nodes table) ≤ named
+    → (list : List Element) → OthersRefused (runOf (take c code′)) 0 (loaded named cells .cells) list
+    → LawfulThroughout (nodes table) (circuit table) (runOf (take c code′)) 0 (loaded named cells .cells) list
+delivered-runs {table} t c e words named cells f enough =
+    let k = was-accepted t c e in
+    let d = is-delivered t c e in
+    let p = promise k refl words in
+    rw (delivered t c e words) (demand-3 table _ _ _ _ _ k refl words (d .short) (omega (arith, d .few, p .celled)) named cells f (omega (arith, p .celled)))
