@@ -62,7 +62,7 @@ module _ (table : List ℕ) (answer : CheckAnswer) (n m i d : ℕ) (k : Checked 
 pub demand-3 : (table : List ℕ) → Demand3 table
 demand-3 table answer n m i d k e words li ld named cells f enough list o =
     let p = promise k e words in
-    throughout (nodes table) (circuit table) (p .wellFormed) (p .complete) (runOf (translated table)) (own-run table answer n m i d k e words li ld) 0 _ (omega arith)
+    throughout (nodes table) (circuit table) (p .wellFormed) (p .complete) (runOf (translated table)) (own-run table answer n m i d k e words (omega arith) (omega arith)) 0 _ (omega arith)
     (cleared named cells f (cellsBefore (circuit table) (nodes table)) (omega (arith, p .celled))) list o
 
 -- the same of the numbers that `translate` has written, wherever it answers with a count

@@ -77,7 +77,7 @@ own-walk {table} k e words few p a cells =
 pub walks-lawful : (table : List ℕ) → Walks table
 walks-lawful table answer n m i d k e words few named cells f enough p list o =
     let g = promise k e words in
-    throughout (nodes table) (circuit table) (g .wellFormed) (g .complete) (walkOf p table) (own-walk k e words few p) 0 _ (omega arith)
+    throughout (nodes table) (circuit table) (g .wellFormed) (g .complete) (walkOf p table) (own-walk k e words (omega arith) p) 0 _ (omega arith)
     (cleared named cells f (cellsBefore (circuit table) (nodes table)) (omega (arith, g .celled))) list o
 
 -- at the border, 16,384 cells and a load that named just these, whatever the count of instructions: a premise that asked for more would fail here
