@@ -26,7 +26,7 @@ use Rattle.engine.specs.Runs.{runOf}
 use Rattle.engine.proofs.Demand3.{demand-3, no-13}
 
 -- what the runs of a table's code have after a load that named `named` cells
-abbrev LawfulRuns : List ℕ → ℕ → Type 0
+abbrev pub LawfulRuns : List ℕ → ℕ → Type 0
 LawfulRuns table named = (cells : List ℕ) → loaded named cells .answer ≡ count named
     → (list : List Element) → OthersRefused (runOf (translated table)) 0 (loaded named cells .cells) list
     → LawfulThroughout (nodes table) (circuit table) (runOf (translated table)) 0 (loaded named cells .cells) list
@@ -40,7 +40,7 @@ module _ (table : List ℕ) (n m : ℕ) (k : Checked table (Accepted n m 2048 16
   largest-no-13 = no-13 table _ n m 2048 16384 k refl words (omega arith) (omega arith)
 
 -- the integrator, and a load that named its one cell
-abbrev integrator : List ℕ
+abbrev pub integrator : List ℕ
 integrator = 3 ∷ 1 ∷ 0 ∷ 5 ∷ 0 ∷ 0 ∷ 11 ∷ 0 ∷ 1 ∷ []
 
 integrator-tight : LoosePlace integrator 0
@@ -56,5 +56,5 @@ integrator-accepted = record { place = 0; isLoose = integrator-tight; answer = r
 integrator-words : Words integrator
 integrator-words k = word-at integrator k (lit< tt, (lit< tt, (lit< tt, (lit< tt, (lit< tt, (lit< tt, (lit< tt, (lit< tt, (lit< tt, tt)))))))))
 
-integrator-lawful : LawfulRuns integrator 1
+pub integrator-lawful : LawfulRuns integrator 1
 integrator-lawful cells f = demand-3 integrator _ 1 1 3 1 integrator-accepted refl integrator-words (omega arith) (omega arith) 1 cells f (omega arith)

@@ -1,3 +1,4 @@
 pub mod Alike
 pub mod Demand3
 pub mod Borders
+mod Example
