@@ -12,7 +12,7 @@ use lib.Dec.{leb}
 use borrow.Author.Tests.{leb-true, le-leb, eq-eqb}
 use Rattle.word.specs.Choice.{_and_, pick}
 use Rattle.word.specs.Tick.{Tick, tick}
-use Rattle.word.proofs.Lists.{both-true, first-true, second-true}
+use Rattle.word.proofs.Lists.{first-true, second-true}
 use Rattle.refusal.specs.Answer.{count, refusedAll}
 use Rattle.cells.specs.Block.{ticksOf, blockOk}
 use Rattle.cells.proofs.Calls.{Block, block-says}

@@ -10,7 +10,6 @@ use lib.Seq.{take-take, take-at, drop-at, drop-append-le}
 use lib.Dec.{leb, leb→le, le→leb}
 use Rattle.word.specs.Choice.{_and_, pick}
 use Rattle.word.proofs.Lists.{first-true, same-test, holds}
-use Rattle.refusal.specs.Answer.{Answer, count, refusedAll}
 use Rattle.refusal.specs.Answer.Answer.{refused}
 use Rattle.cells.specs.Block.{Ran, unchanged, refusal, counted, ticksOf, blockOk, answered, called}
 use Rattle.cells.proofs.Calls as cellCalls

@@ -1,6 +1,6 @@
 -- The law: over every list of calls, from cleared cells of the circuit, the samples and the cells are those of the meaning.
 use Prim.Native.Nat.{ℕ, _≤_}
-use mathlib.Core.Path.{_≡_, refl, sym, ap, _∙_}
+use mathlib.Core.Path.{_≡_, sym, ap, _∙_}
 use mathlib.Core.List.{List, [], _∷_, _++_, map, reverseAux, reverseAux-append, flatten, append-assoc, append-nil}
 use lib.IntN.{ℤ}
 use lib.ListN.{length, drop, take, take-append-drop}
@@ -18,7 +18,6 @@ use Rattle.calls.specs.Calls as calls
 use Rattle.calls.specs.Calls.Element.{own, other}
 use Rattle.calls.specs.Law.{Answered, RefusedWroteNothing, KeptRest, Lawful, history}
 use Rattle.calls.proofs.Run.{after, walk-right}
-use Rattle.calls.proofs.Plays.{cellsAt}
 use Rattle.calls.proofs.Handled.{IsProgramOf, around, Leaves, refused-leaves, own-call, own-nothing}
 
 -- a call that is refused is refused by its answer

@@ -1,6 +1,6 @@
 -- Loads: what an accepted one clears, and a refused one among other calls.
 use Prim.Native.Nat.{ℕ, _+_, _-_, _≤_}
-use mathlib.Core.Path.{_≡_, refl, _∙_}
+use mathlib.Core.Path.{_≡_}
 use mathlib.Core.Bool.{Bool, true, false}
 use mathlib.Core.List.{List, [], _++_, append-assoc}
 use native.Mathlib.Omega.{arith}
@@ -10,7 +10,7 @@ use lib.Seq.{take-at}
 use lib.Dec.{leb}
 use Rattle.word.specs.Choice.{pick}
 use Rattle.word.specs.Tick.{zeros}
-use Rattle.refusal.specs.Answer.{Answer, count, refusedAll}
+use Rattle.refusal.specs.Answer.{count, refusedAll}
 use Rattle.refusal.specs.Answer.Answer.{refused}
 use Rattle.cells.specs.Block.{ranAs}
 use Rattle.cells.specs.Load.{Loaded, loadedAs, loaded}

@@ -1,20 +1,20 @@
 -- The law of a list of calls, of its cut after any tick, and of ticks without demand.
 use Prim.Native.Nat.{ℕ, suc, _*_, _≤_, _<_}
 use mathlib.Core.Path.{_≡_, refl, sym, ap, _∙_}
-use mathlib.Core.List.{List, [], _∷_, _++_, map, map-append, reverse, reverseAux, reverseAux-append, flatten, append-assoc, append-nil}
+use mathlib.Core.List.{List, [], _∷_, _++_, map, map-append, reverse, reverseAux, reverseAux-append, flatten}
 use native.Mathlib.Omega.{arith}
 use lib.ListN.{length, drop, take}
 use Rattle.word.specs.Tick.{Tick, Each, zeros}
 use Rattle.word.proofs.Lists.{flatten-last}
 use Rattle.word.proofs.Each.{each-append}
-use Rattle.refusal.specs.Answer.{Answer, count}
+use Rattle.refusal.specs.Answer.{Answer}
 use Rattle.cells.specs.Block.{ticksOf}
 use Rattle.arity.specs.Tree.{Tree, ins, outs}
 use Rattle.arity.specs.Nodes.{Complete, cellsBefore}
 use Rattle.arity.specs.WellFormed.{WellFormed}
 use Rattle.signal.specs.Signal.{History}
 use Rattle.calls.specs.Calls as calls
-use Rattle.calls.specs.Calls.{Arguments, Element, Event, Program, RefusedIfOther, argumentsOf, lentTo, resultOf, blockAfter, callOf, events, left, ticksAdded, addedBy, OthersRefused, tickOf, firstTicks}
+use Rattle.calls.specs.Calls.{Arguments, Element, Event, Program, RefusedIfOther, lentTo, resultOf, blockAfter, callOf, events, left, ticksAdded, addedBy, OthersRefused, tickOf, firstTicks}
 use Rattle.calls.specs.Calls.Element.{own}
 use Rattle.calls.specs.Law.{Answered, Lawful, history, cutAfter, TickByTick, AcceptedAfter, LawfulThroughout}
 use Rattle.calls.proofs.Handled.{IsProgramOf}

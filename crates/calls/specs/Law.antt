@@ -5,7 +5,7 @@ use mathlib.Core.Logic.{_⊎_}
 use mathlib.Core.List.{List, [], _∷_, _++_}
 use lib.IntN.{ℤ}
 use lib.ListN.{length, drop, take}
-use Rattle.word.specs.Tick.{Tick, Beam, Each, headOr, zeros}
+use Rattle.word.specs.Tick.{Beam, Each, headOr, zeros}
 use Rattle.refusal.specs.Answer.{Answer, count}
 use Rattle.refusal.specs.Answer.Answer.{refused}
 use Rattle.cells.specs.Cells.{part}
@@ -30,6 +30,7 @@ KeptRest e = drop (counted (e .result .answer)) (e .result .outputs) ≡ drop (c
 
 -- the circuit t of n nodes, whose program is `work`; its cells stand in the block from `at` on
 module _ (n : ℕ) (t : Tree) (work : Program) (at : ℕ) where
+  -- the answer that the document gives a call of the program
   abbrev pub answerOf : Arguments → Answer
   answerOf a = answerTo (ins t) (outs t) (cellsBefore t n) a
 
@@ -43,11 +44,12 @@ module _ (n : ℕ) (t : Tree) (work : Program) (at : ℕ) where
   pub record Lawful (block : List ℕ) (list : List Element) : Type 0 where
     -- each call of the program "is refused exactly where row 14 or 12 says so"; an accepted one "answers with their count"
     pub answers : Each (λ e. Answered (e .element) (e .result .answer)) (events work at block list)
+    -- a refused one has written nothing, an accepted one nothing past its samples
     pub refusals : Each RefusedWroteNothing (events work at block list)
     pub buffers : Each KeptRest (events work at block list)
-    -- the samples that the accepted calls wrote are, in order, the meaning's over all their ticks
+    -- "the samples that its accepted runs wrote are, in order, exactly those of the same meaning over all inputs and controls of these runs"
     pub meaning : written work at block list ≡ samples t (history block list)
-    -- each cell holds what the document gives for it after these ticks; the cells before and behind those of the circuit are as they were
+    -- "each cell then holds exactly what the document gives for it after these ticks"; the cells before and behind those of the circuit are as they were
     pub cells : left work at block list ≡ take at block ++ (cellsAfter n t (history block list) ++ drop (cellsBefore t n) (drop at block))
 
   -- the cells of node k after the list
@@ -67,7 +69,7 @@ module _ (n : ℕ) (t : Tree) (work : Program) (at : ℕ) where
     pub repeated : latestOutputs i b (history block more) ≡ latestOutputs i b (history block list)
     pub zero : length (demands (ownHistory t (history block list) i)) ≡ 0 → latestOutputs i b (history block more) ≡ zeros (outs b)
 
-  -- the list with its calls from a on left out, and then with a call of the first j ticks of a
+  -- a list whose call a comes after the calls `before`, cut after j ticks of a: its last call brings just these
   abbrev pub cutAfter : List Element → Arguments → ℕ → List Element
   cutAfter before a j = before ++ own (firstTicks (ins t) a j) ∷ []
 
@@ -90,7 +92,7 @@ module _ (n : ℕ) (t : Tree) (work : Program) (at : ℕ) where
     pub stands : list ≡ before ++ own a ∷ after
     pub accepted : answerOf a ≡ count (a .ticks * outs t)
 
-  -- the whole claim
+  -- the whole claim: of the list, and of each accepted call of the program in it, tick by tick
   pub record LawfulThroughout (block : List ℕ) (list : List Element) : Type 0 where
     pub whole : Lawful block list
     pub tickByTick : (before : List Element) (a : Arguments) → AcceptedAfter list before a → TickByTick block before a
