@@ -5,9 +5,10 @@ use mathlib.Core.Bool.{Bool, true, false}
 use mathlib.Core.List.{List}
 use native.Mathlib.Omega.{arith}
 use lib.IntN.{ℤ}
-use lib.ListN.{length, take}
+use lib.ListN.{length, drop, take}
 use lib.Dec.{leb}
 use Rattle.word.specs.Choice.{_and_, pick}
+use Rattle.word.specs.Tick.{zeros}
 use Rattle.refusal.specs.Answer.{count}
 use Rattle.refusal.specs.Answer.Answer.{refused}
 use Rattle.cells.specs.Block.{Ran, refusal, blockOk, answered, called}
@@ -46,6 +47,13 @@ module _ (table : List ℕ) (answer : CheckAnswer) (n m i d : ℕ) (k : Checked 
       let p = promise k e words in
       run-is-walk (nodes table) (circuit table) (p .wellFormed) (p .complete) (a .ticks) (a .inputs) (a .controls) cells (a .outputs) (p .small li ld)
 
+  -- runs on a block in which the circuit's cells stand from `at` on and are cleared
+  pub runs-lawful : (at : ℕ) (block : List ℕ) → at ≤ length block → take (cellsBefore (circuit table) (nodes table)) (drop at block) ≡ zeros (cellsBefore (circuit table) (nodes table))
+      → (list : List Element) → OthersRefused (runOf (translated table)) at block list → LawfulThroughout (nodes table) (circuit table) (runOf (translated table)) at block list
+  runs-lawful at block fits clear list o =
+      let p = promise k e words in
+      throughout (nodes table) (circuit table) (p .wellFormed) (p .complete) (runOf (translated table)) own-run at block fits clear list o
+
   -- "Their code .. never gets refusal 13": from any cells
   pub no-13 : (a : Arguments) (cells : List ℕ) (p : ℤ) → runOf (translated table) a cells .answer ≡ refused 13 p → ⊥
   unfolding called answered
@@ -61,9 +69,8 @@ module _ (table : List ℕ) (answer : CheckAnswer) (n m i d : ℕ) (k : Checked 
 
 pub demand-3 : (table : List ℕ) → Demand3 table
 demand-3 table answer n m i d k e words li ld named cells f enough list o =
-    let p = promise k e words in
-    throughout (nodes table) (circuit table) (p .wellFormed) (p .complete) (runOf (translated table)) (own-run table answer n m i d k e words (omega arith) (omega arith)) 0 _ (omega arith)
-    (cleared named cells f (cellsBefore (circuit table) (nodes table)) (omega (arith, p .celled))) list o
+    runs-lawful table answer n m i d k e words (omega arith) (omega arith) 0 _ (omega arith)
+    (cleared named cells f (cellsBefore (circuit table) (nodes table)) (omega (arith, promise k e words .celled))) list o
 
 -- the same of the numbers that `translate` has written, wherever it answers with a count
 pub delivered-runs : {table code code′ : List ℕ} {a : TranslateAnswer} (t : Translates table code a code′) (c : ℕ) → answerOf a ≡ count c → Words table
