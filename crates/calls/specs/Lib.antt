@@ -1,3 +1,4 @@
+pub mod Wiring
 pub mod Step
 pub mod Calls
 pub mod Law

@@ -1,19 +1,26 @@
 -- One tick of the walker, over cells that hold anything.
 use Prim.Native.Nat.{ℕ}
-use mathlib.Core.List.{List, [], _∷_, _++_}
-use lib.ListN.{getD, drop, take}
+use mathlib.Core.List.{List, [], _∷_}
+use lib.ListN.{getD}
 use Rattle.word.specs.Choice.{pick}
 use Rattle.word.specs.Operation.{operate}
-use Rattle.word.specs.Tick.{Tick, tick, Stepped, stepped, tailOf}
+use Rattle.word.specs.Tick.{Beam, Tick, tick, Stepped, stepped, tailOf}
 use Rattle.cells.specs.Cells.{part, store}
 use Rattle.cells.specs.Delay.{delayed, moved}
-use Rattle.arity.specs.Tree.{Tree, ins, outs}
+use Rattle.arity.specs.Tree.{Tree, Composition, ins, outs}
 use Rattle.arity.specs.Tree.Tree.{leaf, join, ondemand}
 use Rattle.arity.specs.Tree.Primitive.{number, control, operation, delay, cable, cut}
-use Rattle.arity.specs.Tree.Composition.{sequence, parallel, split, merge, recursion}
-use Rattle.signal.specs.Signal.{fill, sums, demanded}
+use Rattle.signal.specs.Signal.{demanded}
+use Rattle.calls.specs.Wiring.{firstSide, secondSide, firstInputs, secondInputs, joinOutputs, keptCells}
 
--- base i is the first cell of node i
+-- base i is the first cell of node i; what the first side of a composition is given, and what the second, where ys are the outputs of the first
+abbrev pub firstTick : (ℕ → ℕ) → ℕ → Composition → Tree → Tree → Tick → List ℕ → Tick
+firstTick base i c l r f cs = tick (firstInputs c l (f .inputs) (part (base i) (ins r) cs)) (f .controls)
+
+abbrev pub secondTick : Composition → Tree → Tree → Tick → Beam → Tick
+secondTick c l r f ys = tick (secondInputs c l r (f .inputs) ys) (f .controls)
+
+-- a composition is one side and then the other
 unfoldable pub step : (ℕ → ℕ) → Tree → Tick → List ℕ → Stepped
 unfolding ins outs operate
 step base (leaf i (number v)) f cs = stepped (v ∷ []) cs
@@ -23,23 +30,10 @@ step base (leaf i (delay d)) f cs =
     stepped (delayed (base i) d (getD (f .inputs) 0 0) (getD (f .inputs) 1 0) cs ∷ []) (moved (base i) d (getD (f .inputs) 0 0) cs)
 step base (leaf i cable) f cs = stepped (getD (f .inputs) 0 0 ∷ []) cs
 step base (leaf i cut) f cs = stepped [] cs
-step base (join i sequence l r) f cs =
-    let a = step base l f cs in
-    step base r (tick (a .outputs) (f .controls)) (a .cells)
-step base (join i parallel l r) f cs =
-    let a = step base l (tick (take (ins l) (f .inputs)) (f .controls)) cs in
-    let b = step base r (tick (drop (ins l) (f .inputs)) (f .controls)) (a .cells) in
-    stepped (a .outputs ++ b .outputs) (b .cells)
-step base (join i split l r) f cs =
-    let a = step base l f cs in
-    step base r (tick (fill (ins r) (outs l) (a .outputs)) (f .controls)) (a .cells)
-step base (join i merge l r) f cs =
-    let a = step base l f cs in
-    step base r (tick (sums (outs l) (ins r) (a .outputs)) (f .controls)) (a .cells)
-step base (join i recursion l r) f cs =
-    let a = step base r (tick (part (base i) (ins r) cs) (f .controls)) cs in
-    let b = step base l (tick (a .outputs ++ f .inputs) (f .controls)) (a .cells) in
-    stepped (b .outputs) (store (base i) (take (ins r) (b .outputs)) (b .cells))
+step base (join i c l r) f cs =
+    let a = firstSide c (step base l) (step base r) (firstTick base i c l r f cs) cs in
+    let b = secondSide c (step base l) (step base r) (secondTick c l r f (a .outputs)) (a .cells) in
+    stepped (joinOutputs c (a .outputs) (b .outputs)) (keptCells c (base i) (ins r) (b .outputs) (b .cells))
 step base (ondemand i b) f cs =
     let a = step base b (tick (tailOf (f .inputs)) (f .controls)) cs in
     let held = pick (demanded f) (store (base i) (a .outputs) (a .cells)) cs in

@@ -9,7 +9,7 @@ use Rattle.arity.specs.Tree.{Tree, Composition, ins, outs}
 use Rattle.arity.specs.Table.{nodes, kindAt, compositionOf}
 use Rattle.arity.specs.Survey.{rowAt}
 use Rattle.arity.specs.declared.rows.Row.{Row}
-use Rattle.walker.specs.Wiring.{firstInputs, secondInputs}
+use Rattle.calls.specs.Wiring.{firstInputs, secondInputs}
 use Rattle.walker.specs.Ready.{base, Joins, joining, leftTree, rightTree, firstChild, insOf, outsOf, SecondGiven, Finished}
 use Rattle.walker.proofs.Joining.{Kind, kind-of}
 use Rattle.walker.proofs.Joining.Kind.{sequences, parallels, splits, merges as mergings, recursions}

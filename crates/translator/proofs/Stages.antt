@@ -12,7 +12,7 @@ use Rattle.arity.specs.Tree.Composition.{sequence, parallel, split, merge, recu
 use Rattle.arity.specs.Table.{tree, firstAt}
 use Rattle.arity.specs.WellFormed.{WellFormed}
 use Rattle.arity.specs.Promise.{Node}
-use Rattle.walker.specs.Wiring.{firstSide, secondSide}
+use Rattle.calls.specs.Wiring.{firstSide, secondSide}
 use Rattle.walker.specs.Ready.{base, Joins, Demands, joining, leftTree, rightTree, firstChild, secondChild, insOf, outsOf}
 use Rattle.walker.proofs.Joining.{first-tree, second-tree}
 use Rattle.flat.specs.Flat.{Instruction, instruction}

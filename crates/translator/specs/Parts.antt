@@ -6,7 +6,7 @@ use Rattle.word.specs.Tick.{headOr, tailOf}
 use Rattle.arity.specs.Tree.{Tree, Composition, ins, outs, need}
 use Rattle.arity.specs.Tree.Composition.{sequence, parallel, split, merge, recursion}
 use Rattle.arity.specs.Table.{nodes, circuit, tree, firstAt}
-use Rattle.walker.specs.Wiring.{firstInputs, secondInputs, joinOutputs}
+use Rattle.calls.specs.Wiring.{firstInputs, secondInputs, joinOutputs}
 use Rattle.walker.specs.Ready.{base, Ready, joining, leftTree, rightTree, firstChild, secondChild, insOf, outsOf}
 use Rattle.flat.specs.Flat.{Instruction, instruction}
 use Rattle.translator.specs.Emit.{Emitted, emitted, emit, reads, writes, upFrom, merges}

@@ -7,36 +7,24 @@ use native.Mathlib.Decide.{ℕ-discrete}
 use lib.Dec.{eqb}
 use Rattle.word.specs.Choice.{pick}
 use Rattle.word.specs.Tick.{Beam, Tick, tick, Stepped, stepped}
-use Rattle.cells.specs.Cells.{part}
 use Rattle.arity.specs.Tree.{Tree, Composition, ins}
 use Rattle.arity.specs.Tree.Tree.{join}
 use Rattle.arity.specs.Tree.Composition.{sequence, parallel, split, merge, recursion}
 use Rattle.arity.specs.Table.{kindAt, firstAt, secondAt, compositionOf, tree}
-use Rattle.calls.specs.Step.{step}
-use Rattle.walker.specs.Wiring.{firstSide, secondSide, firstInputs, secondInputs, joinOutputs, keptCells}
+use Rattle.calls.specs.Step.{firstTick, secondTick, step}
+use Rattle.calls.specs.Wiring.{firstSide, secondSide, joinOutputs, keptCells}
 use Rattle.walker.specs.Ready.{base, Ready, Joins, joining, leftTree, rightTree, firstChild, secondChild, insOf, outsOf, FirstGiven, SecondGiven, Finished, Ticked}
 
--- a composition is one side, then the other
-worked : (ℕ → ℕ) → ℕ → Composition → Tree → Tree → Tick → List ℕ → Stepped
-worked base i c l r f cs =
-    let a = step base (firstSide c l r) (tick (firstInputs c l (f .inputs) (part (base i) (ins r) cs)) (f .controls)) cs in
-    let b = step base (secondSide c l r) (tick (secondInputs c l r (f .inputs) (a .outputs)) (f .controls)) (a .cells) in
-    stepped (joinOutputs c (a .outputs) (b .outputs)) (keptCells c (base i) (ins r) (b .outputs) (b .cells))
-
-step-join : (base : ℕ → ℕ) (i : ℕ) (c : Composition) (l r : Tree) (f : Tick) (cs : List ℕ) → step base (join i c l r) f cs ≡ worked base i c l r f cs
-unfolding step worked
-step-join base i sequence l r f cs = refl
-step-join base i parallel l r f cs = refl
-step-join base i split l r f cs = refl
-step-join base i merge l r f cs = refl
-step-join base i recursion l r f cs = refl
-
-worked-is : (base : ℕ → ℕ) (i : ℕ) (c : Composition) (l r : Tree) (f : Tick) (cs ys cs₁ zs cs₂ : List ℕ)
-    → step base (firstSide c l r) (tick (firstInputs c l (f .inputs) (part (base i) (ins r) cs)) (f .controls)) cs ≡ stepped ys cs₁
-    → step base (secondSide c l r) (tick (secondInputs c l r (f .inputs) ys) (f .controls)) cs₁ ≡ stepped zs cs₂
+-- a tick of a composition from the ticks of its sides, one after the other
+step-join : (base : ℕ → ℕ) (i : ℕ) (c : Composition) (l r : Tree) (f : Tick) (cs ys cs₁ zs cs₂ : List ℕ)
+    → step base (firstSide c l r) (firstTick base i c l r f cs) cs ≡ stepped ys cs₁ → step base (secondSide c l r) (secondTick c l r f ys) cs₁ ≡ stepped zs cs₂
     → step base (join i c l r) f cs ≡ stepped (joinOutputs c ys zs) (keptCells c (base i) (ins r) zs cs₂)
-unfolding worked
-worked-is base i c l r f cs ys cs₁ zs cs₂ a b = step-join base i c l r f cs ∙ rw (a, b)
+unfolding step
+step-join base i sequence l r f cs ys cs₁ zs cs₂ a b = rw (a, b)
+step-join base i parallel l r f cs ys cs₁ zs cs₂ a b = rw (a, b)
+step-join base i split l r f cs ys cs₁ zs cs₂ a b = rw (a, b)
+step-join base i merge l r f cs ys cs₁ zs cs₂ a b = rw (a, b)
+step-join base i recursion l r f cs ys cs₁ zs cs₂ a b = rw (a, b)
 
 -- the five kinds of a composition
 pub data Kind : ℕ → Type 0 where
@@ -91,7 +79,7 @@ join-ticked {table} {shape} {controls} {i} {f} {s} {xs} {cs} {zs} {ys} {cs₁} {
           ap₂ stepped (out .outputs) (out .cells)
           ∙ sym
           (ap (λ (t : Tree). step (base table) t (tick (insOf table i xs) controls) cs) (ready .node i (j .inside) .isJoin (j .least) (j .most))
-          ∙ worked-is (base table) i (joining table i) (leftTree table i) (rightTree table i) (tick (insOf table i xs) controls) cs (outsOf table (firstChild table i) ys) cs₁ (outsOf table (secondChild table i) vs) cs₂
+          ∙ step-join (base table) i (joining table i) (leftTree table i) (rightTree table i) (tick (insOf table i xs) controls) cs (outsOf table (firstChild table i) ys) cs₁ (outsOf table (secondChild table i) vs) cs₂
           (ap₂ (λ (t : Tree) (l : Beam). step (base table) t (tick l controls) cs) (sym (first-tree table i j)) (sym (first .is)) ∙ sym (a′ .is))
           (ap₂ (λ (t : Tree) (l : Beam). step (base table) t (tick l controls) cs₁) (sym (second-tree table i j)) (sym (second .is)) ∙ sym (b′ .is)));
     }

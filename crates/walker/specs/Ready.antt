@@ -12,7 +12,7 @@ use Rattle.arity.specs.Table.{nodes, kindAt, firstAt, secondAt, compositionOf, 
 use Rattle.arity.specs.Nodes.{cellsBefore}
 use Rattle.arity.specs.Promise.{Node, Shaped}
 use Rattle.calls.specs.Step.{step}
-use Rattle.walker.specs.Wiring.{firstInputs, secondInputs, joinOutputs, keptCells}
+use Rattle.calls.specs.Wiring.{firstInputs, secondInputs, joinOutputs, keptCells}
 
 -- the first cell of each node of a table
 abbrev pub base : List ℕ → ℕ → ℕ
