@@ -18,14 +18,11 @@ use Rattle.arity.specs.Nodes.{Complete, cellsBefore}
 use Rattle.arity.specs.WellFormed.{WellFormed}
 use Rattle.signal.specs.Signal.{History, samples}
 use Rattle.calls.specs.Step.{step}
-use Rattle.calls.specs.Calls.{Arguments, Call, Program, lentTo, resultOf, blockAfter, ticksAdded, answerTo}
+use Rattle.calls.specs.Calls.{Arguments, Call, Program, Element, lentTo, resultOf, blockAfter, bufferOf, callOf, ticksAdded, answerTo}
+use Rattle.calls.specs.Calls.Element.{own, other}
+use Rattle.calls.specs.Law.{IsProgramOf}
 use Rattle.calls.proofs.Plays.{cellsAt, cells-long}
 use Rattle.calls.proofs.Walks.{walks, continues}
-
--- the program works the circuit t of n nodes: 14 and 12, and its ticks
-abbrev pub IsProgramOf : ℕ → Tree → Program → Type 0
-IsProgramOf n t work = (a : Arguments) (cells : List ℕ)
-    → work a cells ≡ called (step (cellsBefore t) t) (ins t) (outs t) (cellsBefore t n) (a .ticks) (a .inputs) (a .controls) cells (a .outputs)
 
 module _ (n : ℕ) (t : Tree) (w : WellFormed t) (c : Complete n t) (front behind : List ℕ) where
   -- the circuit's cells after a history, with those before and behind them
@@ -33,22 +30,21 @@ module _ (n : ℕ) (t : Tree) (w : WellFormed t) (c : Complete n t) (front behin
   around h = front ++ (cellsAt n t w c h ++ behind)
 
   -- what a call leaves after the history h: its buffer past what it wrote, the samples so far, and the block
-  pub record Leaves (h : History) (a : Arguments) (r : Ran) (block : List ℕ) : Type 0 where
-    pub keeps : drop (counted (r .answer)) (r .outputs) ≡ drop (counted (r .answer)) (a .outputs)
-    pub meaning : samples t h ++ take (counted (r .answer)) (r .outputs) ≡ samples t (reverseAux (ticksAdded (ins t) a (r .answer)) h)
-    pub cells : block ≡ around (reverseAux (ticksAdded (ins t) a (r .answer)) h)
+  pub record Leaves (h : History) (x : Element) (r : Ran) (block : List ℕ) : Type 0 where
+    pub keeps : drop (counted (r .answer)) (r .outputs) ≡ drop (counted (r .answer)) (bufferOf x)
+    pub meaning : samples t h ++ take (counted (r .answer)) (r .outputs) ≡ samples t (reverseAux (ticksAdded (ins t) x (r .answer)) h)
+    pub cells : block ≡ around (reverseAux (ticksAdded (ins t) x (r .answer)) h)
 
   -- a refused call, lent whatever part of the block
-  pub refused-leaves : (h : History) (call : Call) (x : ℕ) (p : ℤ)
-      → resultOf call (around h) ≡ unchanged (refused x p) (lentTo call (around h)) (call .arguments .outputs)
-      → Leaves h (call .arguments) (resultOf call (around h)) (blockAfter call (around h))
+  pub refused-leaves : (h : History) (call : Call) (x : ℕ) (p : ℤ) → resultOf call (around h) ≡ unchanged (refused x p) (lentTo call (around h)) (call .outputs)
+      → Leaves h (other call) (resultOf call (around h)) (blockAfter call (around h))
   refused-leaves h call x p e =
       let b : List ℕ = around h in
       rw e
       (record {
         keeps = refl;
         meaning = append-nil (samples t h);
-        cells = ap (λ xs. take (call .from) b ++ xs) (take-append-drop (call .arguments .lent) (drop (call .from) b)) ∙ take-append-drop (call .from) b;
+        cells = ap (λ xs. take (call .from) b ++ xs) (take-append-drop (call .lent) (drop (call .from) b)) ∙ take-append-drop (call .from) b;
       })
 
   module _ (h : History) (a : Arguments) where
@@ -80,7 +76,7 @@ module _ (n : ℕ) (t : Tree) (w : WellFormed t) (c : Complete n t) (front behin
     abbrev after : Ran → List ℕ
     after r = front ++ (r .cells ++ drop (a .lent) tail)
 
-    accepted-leaves : N ≤ a .lent → Leaves h a run (after run)
+    accepted-leaves : N ≤ a .lent → Leaves h (own a) run (after run)
     unfolding answered
     accepted-leaves enough =
         let cs : List ℕ = cellsAt n t w c h in
@@ -97,13 +93,13 @@ module _ (n : ℕ) (t : Tree) (w : WellFormed t) (c : Complete n t) (front behin
               ∙ ap (λ xs. front ++ xs) (append-assoc new (drop N given) (drop (a .lent) tail) ∙ ap (λ xs. new ++ xs) rest);
         }
 
-    no-leaves : (x : ℕ) → Leaves h a (no x) (after (no x))
+    no-leaves : (x : ℕ) → Leaves h (own a) (no x) (after (no x))
     no-leaves x = record { keeps = refl; meaning = append-nil (samples t h); cells = ap (λ xs. front ++ xs) (take-append-drop (a .lent) tail) }
 
     -- any call of the program: its answer, and what it leaves
     pub record Handles (r : Ran) (block : List ℕ) : Type 0 where
       pub answer : r .answer ≡ answerTo (ins t) (outs t) (cellsBefore t n) a
-      pub leaves : Leaves h a r block
+      pub leaves : Leaves h (own a) r block
 
     -- the two tests of rows 14 and 12
     abbrev blockTest : Bool
@@ -122,20 +118,20 @@ module _ (n : ℕ) (t : Tree) (w : WellFormed t) (c : Complete n t) (front behin
     by-tests false y p q = record { answer = rw p; leaves = no-leaves 14 }
 
     module _ (work : Program) (same : IsProgramOf n t work) (at : ℕ) (long : length front ≡ at) where
-      abbrev own : Call
-      own = record { arguments = a; from = at; work = work a }
+      abbrev call : Call
+      call = callOf work at (own a)
 
-      lent-from : lentTo own (around h) ≡ given
+      lent-from : lentTo call (around h) ≡ given
       lent-from = ap (take (a .lent)) (drop-at front tail at long)
 
-      tests : resultOf own (around h) ≡ tested blockTest roomTest
+      tests : resultOf call (around h) ≡ tested blockTest roomTest
       unfolding called
       tests = ap (work a) lent-from ∙ same a given ∙ rw room
 
-      after-own : blockAfter own (around h) ≡ after (resultOf own (around h))
-      after-own = ap₂ {C = List ℕ} (λ x y. x ++ (resultOf own (around h) .cells ++ drop (a .lent) y)) (take-at front tail at long) (drop-at front tail at long)
+      after-own : blockAfter call (around h) ≡ after (resultOf call (around h))
+      after-own = ap₂ {C = List ℕ} (λ x y. x ++ (resultOf call (around h) .cells ++ drop (a .lent) y)) (take-at front tail at long) (drop-at front tail at long)
 
-      pub own-call : Handles (resultOf own (around h)) (blockAfter own (around h))
+      pub own-call : Handles (resultOf call (around h)) (blockAfter call (around h))
       own-call = rw (after-own, tests) (by-tests blockTest roomTest refl refl)
 
 -- a refused call of the program

@@ -1,33 +1,29 @@
--- The law: over every list of calls, from cleared cells of the circuit, the samples and the cells are those of the meaning.
-use Prim.Native.Nat.{ℕ, _≤_}
+-- The law: over every list of calls, from the circuit's cells after a history, the samples and the cells are those of the meaning.
+use Prim.Native.Nat.{ℕ}
 use mathlib.Core.Path.{_≡_, sym, ap, _∙_}
 use mathlib.Core.List.{List, [], _∷_, _++_, map, reverseAux, reverseAux-append, flatten, append-assoc, append-nil}
 use lib.IntN.{ℤ}
 use lib.ListN.{length, drop, take, take-append-drop}
 use lib.Seq.{length-take-le}
-use Rattle.word.specs.Tick.{Tick, zeros, Each}
+use Rattle.word.specs.Tick.{Tick, Each}
 use Rattle.refusal.specs.Answer.Answer.{refused}
 use Rattle.cells.specs.Block.{Ran, unchanged, counted}
 use Rattle.arity.specs.Tree.{Tree, ins}
 use Rattle.arity.specs.Nodes.{Complete, cellsBefore}
 use Rattle.arity.specs.WellFormed.{WellFormed}
 use Rattle.signal.specs.Signal.{History, samples}
-use Rattle.signal.proofs.Causal.{causal}
-use Rattle.calls.specs.Calls.{Call, Refused, Element, Program, RefusedIfOther, argumentsOf, lentTo, resultOf, blockAfter, callOf, events, left, ticksAdded, addedBy, written, OthersRefused}
+use Rattle.calls.specs.Calls.{Call, Refused, Element, Program, RefusedIfOther, lentTo, resultOf, blockAfter, callOf, eventOf, events, left, ticksAdded, addedBy, written, OthersRefused}
 use Rattle.calls.specs.Calls as calls
 use Rattle.calls.specs.Calls.Element.{own, other}
-use Rattle.calls.specs.Law.{Answered, RefusedWroteNothing, KeptRest, Lawful, history}
-use Rattle.calls.proofs.Run.{after, walk-right}
-use Rattle.calls.proofs.Handled.{IsProgramOf, around, Leaves, refused-leaves, own-call, own-nothing}
+use Rattle.calls.specs.Law.{Answered, RefusedWroteNothing, KeptRest, Lawful, IsProgramOf, HoldsPast, history}
+use Rattle.calls.proofs.Run.{walk-right}
+use Rattle.calls.proofs.NewSamples.{samples-since}
+use Rattle.calls.proofs.Handled.{around, Leaves, refused-leaves, own-call, own-nothing}
 
 -- a call that is refused is refused by its answer
 refused-nothing : (call : Call) (cells : List ℕ) → Refused call cells → (x : ℕ) (p : ℤ) → call .work cells .answer ≡ refused x p
-    → call .work cells ≡ unchanged (refused x p) cells (call .arguments .outputs)
-refused-nothing call cells r x p e = r .nothing ∙ ap (λ z. unchanged z cells (call .arguments .outputs)) (sym (ap (λ (y : Ran). y .answer) (r .nothing)) ∙ e)
-
-samples-none : (t : Tree) → samples t [] ≡ []
-unfolding samples
-samples-none t = rw (causal t .empty)
+    → call .work cells ≡ unchanged (refused x p) cells (call .outputs)
+refused-nothing call cells r x p e = r .nothing ∙ ap (λ z. unchanged z cells (call .outputs)) (sym (ap (λ (y : Ran). y .answer) (r .nothing)) ∙ e)
 
 module _ (n : ℕ) (t : Tree) (w : WellFormed t) (c : Complete n t) (work : Program) (same : IsProgramOf n t work) (at : ℕ) where
   -- all ticks that the calls add
@@ -38,8 +34,8 @@ module _ (n : ℕ) (t : Tree) (w : WellFormed t) (c : Complete n t) (work : Prog
     -- one element on a block that holds the cells of the history h
     record Handled (h : History) (block : List ℕ) (x : Element) : Type 0 where
       answer : Answered n t work at x (resultOf (callOf work at x) block .answer)
-      refusal : RefusedWroteNothing (record { element = x; given = lentTo (callOf work at x) block; result = resultOf (callOf work at x) block })
-      leaves : Leaves n t w c front behind h (argumentsOf x) (resultOf (callOf work at x) block) (blockAfter (callOf work at x) block)
+      refusal : RefusedWroteNothing (eventOf work at block x)
+      leaves : Leaves n t w c front behind h x (resultOf (callOf work at x) block) (blockAfter (callOf work at x) block)
 
     handled : (h : History) (x : Element) → RefusedIfOther x (lentTo (callOf work at x) (around n t w c front behind h)) → Handled h (around n t w c front behind h) x
     handled h (own a) o =
@@ -67,7 +63,7 @@ module _ (n : ℕ) (t : Tree) (w : WellFormed t) (c : Complete n t) (work : Prog
         let k : Handled h block x = rw u (handled h x (rw u at (o .0))) in
         let r = resultOf (callOf work at x) block in
         let next : List ℕ = blockAfter (callOf work at x) block in
-        let new : List Tick = ticksAdded (ins t) (argumentsOf x) (r .answer) in
+        let new : List Tick = ticksAdded (ins t) x (r .answer) in
         let wr : List ℕ = take (counted (r .answer)) (r .outputs) in
         let f : LawfulFrom (reverseAux new h) next list = lawful-from (reverseAux new h) next (k .leaves .cells) list (o .1) in
         let e = reverseAux-append new (allAdded next list) h in
@@ -79,21 +75,22 @@ module _ (n : ℕ) (t : Tree) (w : WellFormed t) (c : Complete n t) (work : Prog
           cells = f .cells ∙ ap (around n t w c front behind) (sym e);
         }
 
-  -- from a block in which the circuit's cells are cleared, over every list of calls whose other calls are refused
-  pub law : (block : List ℕ) → at ≤ length block → take (cellsBefore t n) (drop at block) ≡ zeros (cellsBefore t n)
-      → (list : List Element) → OthersRefused work at block list → Lawful n t work at block list
-  unfolding calls.history after
-  law block fits cleared list o =
+  -- from a block that holds the circuit's cells after the history `past`, over every list of calls whose other calls are refused
+  pub law : (past : History) (block : List ℕ) → HoldsPast n t at past block → (list : List Element) → OthersRefused work at block list → Lawful n t work at past block list
+  unfolding calls.history
+  law past block held list o =
       let N : ℕ = cellsBefore t n in
       let front : List ℕ = take at block in
       let behind : List ℕ = drop N (drop at block) in
-      let u : block ≡ front ++ (zeros N ++ behind) =
-      sym (take-append-drop at block) ∙ ap (λ xs. front ++ xs) (sym (take-append-drop N (drop at block)) ∙ ap (λ xs. xs ++ behind) cleared) in
-      let l : LawfulFrom front behind (length-take-le at block fits) [] block list = lawful-from front behind (length-take-le at block fits) [] block u list o in
+      let u : block ≡ around n t w c front behind past =
+      sym (take-append-drop at block)
+      ∙ ap (λ xs. front ++ xs) (sym (take-append-drop N (drop at block)) ∙ ap (λ xs. xs ++ behind) (held .cells ∙ sym (walk-right n t w c past .cells))) in
+      let long : length front ≡ at = length-take-le at block (held .inside) in
+      let l : LawfulFrom front behind long past block list = lawful-from front behind long past block u list o in
       record {
         answers = l .answers;
         refusals = l .refusals;
         buffers = l .buffers;
-        meaning = rw (samples-none t) at (l .meaning);
-        cells = l .cells ∙ ap (λ xs. front ++ (xs ++ behind)) (walk-right n t w c (history n t work at block list) .cells);
+        meaning = samples-since t past (allAdded block list) (written work at block list) (l .meaning);
+        cells = l .cells ∙ ap (λ xs. front ++ (xs ++ behind)) (walk-right n t w c (history n t work at past block list) .cells);
       }

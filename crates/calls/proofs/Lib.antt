@@ -8,8 +8,10 @@ pub mod Widths
 pub mod Plays
 pub mod Walks
 pub mod Handled
+pub mod NewSamples
 pub mod Law
-pub mod Loads
 pub mod Cut
 pub mod QuietCells
 pub mod Throughout
+pub mod Loads
+mod Borders

@@ -1,6 +1,6 @@
--- Loads: what an accepted one clears, and a refused one among other calls.
+-- Loads: an accepted one begins a list of calls, a refused one may lie in it.
 use Prim.Native.Nat.{ℕ, _+_, _-_, _≤_}
-use mathlib.Core.Path.{_≡_}
+use mathlib.Core.Path.{_≡_, _∙_}
 use mathlib.Core.Bool.{Bool, true, false}
 use mathlib.Core.List.{List, [], _++_, append-assoc}
 use native.Mathlib.Omega.{arith}
@@ -14,7 +14,14 @@ use Rattle.refusal.specs.Answer.{count, refusedAll}
 use Rattle.refusal.specs.Answer.Answer.{refused}
 use Rattle.cells.specs.Block.{ranAs}
 use Rattle.cells.specs.Load.{Loaded, loadedAs, loaded}
-use Rattle.calls.specs.Calls.{Call, Refused}
+use Rattle.arity.specs.Tree.{Tree}
+use Rattle.arity.specs.Nodes.{Complete, cellsBefore}
+use Rattle.arity.specs.WellFormed.{WellFormed}
+use Rattle.calls.specs.Calls.{Program, Refused}
+use Rattle.calls.specs.Law.{IsProgramOf}
+use Rattle.calls.specs.Loads.{LawfulFromLoad, loadCall}
+use Rattle.calls.proofs.Run.{after, walk-right}
+use Rattle.calls.proofs.Throughout.{from-past}
 
 -- the ends of a load: the cleared cells, or a refusal
 data LoadEnd (named : ℕ) (cells : List ℕ) : Loaded → Type 0 where
@@ -36,21 +43,19 @@ first-zeros k n xs h =
     rw (e, ← replicate-append-replicate {A = ℕ} k (n - k) 0, append-assoc) (take-at (zeros k) (zeros (n - k) ++ xs) k (length-replicate k 0))
 
 -- a load that named at least k has cleared the first k cells
-pub cleared : (named : ℕ) (cells : List ℕ) → loaded named cells .answer ≡ count named → (k : ℕ) → k ≤ named → take k (loaded named cells .cells) ≡ zeros k
+cleared : (named : ℕ) (cells : List ℕ) → loaded named cells .answer ≡ count named → (k : ℕ) → k ≤ named → take k (loaded named cells .cells) ≡ zeros k
 cleared named cells e k h = go (loaded named cells) (load-end named cells) e
   where
     go : (l : Loaded) → LoadEnd named cells l → l .answer ≡ count named → take k (l .cells) ≡ zeros k
     go l clears f = first-zeros k named (drop named cells) h
     go l (refuses x) f = absurd (let z : _≡_ {A = ℕ} 0 1 = cc in omega arith)
 
--- a load as one of a list of calls, lent some cells from `from` on; it has no output buffer
-abbrev pub loadCall : (named from lent : ℕ) → Call
-loadCall named from lent =
-    record {
-      arguments = record { ticks = 0; inputs = []; controls = []; outputs = []; lent = lent };
-      from = from;
-      work = λ cells. ranAs (loaded named cells .answer) (loaded named cells .cells) [];
-    }
+-- after the load the block holds the cells of the empty history
+pub from-load : (n : ℕ) (t : Tree) → WellFormed t → Complete n t → (work : Program) → IsProgramOf n t work → (d : ℕ) → cellsBefore t n ≤ d → LawfulFromLoad n t work d
+unfolding after
+from-load n t w c work same d enough named cells e h =
+    from-past n t w c work same 0 [] (loaded named cells .cells)
+    (record { inside = omega arith; cells = cleared named cells e (cellsBefore t n) (omega arith) ∙ walk-right n t w c [] .cells })
 
 pub refused-load : (named from lent : ℕ) (cells : List ℕ) (x : ℕ) (p : ℤ) → loaded named cells .answer ≡ refused x p → Refused (loadCall named from lent) cells
 refused-load named from lent cells x p e = record { number = x; place = p; nothing = go (loaded named cells) (load-end named cells) e }

@@ -4,12 +4,12 @@ use mathlib.Core.Path.{_≡_, refl, sym, ap, ap₂, _∙_}
 use mathlib.Core.Logic.{_⊎_, inl, inr}
 use mathlib.Core.List.{List, [], _∷_, _++_}
 use native.Mathlib.Omega.{arith}
-use lib.ListN.{length, drop, take, List·getD-append}
+use lib.ListN.{length, getD, drop, take, List·getD-append}
 use lib.Seq.{getD-append-add, length-take-le}
 use Rattle.word.specs.Tick.{Tick, headOr, zeros}
 use Rattle.cells.specs.Cells.{part}
 use Rattle.cells.proofs.Parts.{part-agree}
-use Rattle.arity.specs.Tree.{Tree, outs, size}
+use Rattle.arity.specs.Tree.{Tree, ins, outs, size}
 use Rattle.arity.specs.Tree.Tree.{ondemand}
 use Rattle.arity.specs.Nodes.{Numbered, Complete, subtree, cellsBefore}
 use Rattle.arity.specs.WellFormed.{WellFormed}
@@ -50,12 +50,12 @@ module _ (n : ℕ) (t : Tree) (w : WellFormed t) (c : Complete n t) where
       (λ k a. List·getD-append cs rest 0 k (omega (arith, cells-after-node t j n (c .only j m), cells-long n t w c h, a .high)))
       ∙ node-holds (cellsBefore t) t h cs (c .distinct) (p .holds) j m)
 
-  module _ (work : Program) (at : ℕ) (block : List ℕ) (fits : at ≤ length block) where
+  module _ (work : Program) (at : ℕ) (past : History) (block : List ℕ) (fits : at ≤ length block) where
     -- after lawful calls, node j's cells hold its contents after its own history
-    node-cells : (list : List Element) → Lawful n t work at block list → (j : ℕ) → Numbered t j
-        → nodeCells n t work at block list j ≡ contents (subtree t j) (own t (history n t work at block list) j)
+    node-cells : (list : List Element) → Lawful n t work at past block list → (j : ℕ) → Numbered t j
+        → nodeCells n t work at block list j ≡ contents (subtree t j) (own t (history n t work at past block list) j)
     node-cells list l j m =
-        let h : History = history n t work at block list in
+        let h : History = history n t work at past block list in
         let rest : List ℕ = drop (cellsBefore t n) (drop at block) in
         let front : List ℕ = take at block in
         ap (part (at + cellsBefore t j) (size (subtree t j))) (l .cells)
@@ -64,11 +64,11 @@ module _ (n : ℕ) (t : Tree) (w : WellFormed t) (c : Complete n t) where
         ∙ node-part h rest j m
 
     -- a list, and one with one tick more, at which no demand reaches the body b of the ondemand i
-    module _ (list more : List Element) (l : Lawful n t work at block list) (l′ : Lawful n t work at block more)
-        (f : Tick) (e : history n t work at block more ≡ f ∷ history n t work at block list)
-        (i : ℕ) (b : Tree) (m : Numbered t i) (s : subtree t i ≡ ondemand i b) (q : NoDemand t i f (history n t work at block list)) where
+    module _ (list more : List Element) (l : Lawful n t work at past block list) (l′ : Lawful n t work at past block more)
+        (f : Tick) (e : history n t work at past block more ≡ f ∷ history n t work at past block list)
+        (i : ℕ) (b : Tree) (m : Numbered t i) (s : subtree t i ≡ ondemand i b) (q : NoDemand t i f (history n t work at past block list)) where
       abbrev h : History
-      h = history n t work at block list
+      h = history n t work at past block list
 
       here : (k : ℕ) → (i ≡ k) ⊎ Numbered b k → Numbered t k
       unfolding Numbered
@@ -78,13 +78,13 @@ module _ (n : ℕ) (t : Tree) (w : WellFormed t) (c : Complete n t) where
       still k (inl g) = rw (← g) (quiet t b (c .distinct) i m s f h q .held)
       still k (inr g) = quiet t b (c .distinct) i m s f h q .body k g
 
-      gives : (x : History) → latestOutputs n t work at i b x ≡ contents (subtree t i) (own t x i)
+      gives : (x : History) → latestOutputs t i b x ≡ contents (subtree t i) (own t x i)
       gives x = rw s (latest-held i b (own t x i))
 
-      again : latestOutputs n t work at i b (history n t work at block more) ≡ latestOutputs n t work at i b h
+      again : latestOutputs t i b (history n t work at past block more) ≡ latestOutputs t i b h
       again = rw e (gives (f ∷ h) ∙ still i (inl refl) ∙ sym (gives h))
 
-      pub quiet-tick : Quiet n t work at block list more i b
+      pub quiet-tick : Quiet n t work at past block list more i b
       quiet-tick =
           record {
             cells = λ k o. node-cells more l′ k (here k o) ∙ ap (λ x. contents (subtree t k) (own t x k)) e ∙ still k o ∙ sym (node-cells list l k (here k o));

@@ -1,7 +1,7 @@
 -- A list of calls on one block of cells, each lent a part of it as the last left it.
 use Prim.Native.Nat.{ℕ, _*_}
 use mathlib.Core.Path.{_≡_}
-use mathlib.Core.List.{List, [], _∷_, _++_, map, reverse, flatten}
+use mathlib.Core.List.{List, [], _∷_, _++_, map, reverseAux, flatten}
 use lib.IntN.{ℤ}
 use lib.ListN.{length, drop, take}
 use lib.Dec.{leb}
@@ -12,6 +12,29 @@ use Rattle.refusal.specs.Answer.Answer.{counts, refused}
 use Rattle.cells.specs.Block.{Ran, unchanged, counted, ticksOf, blockOk}
 use Rattle.signal.specs.Signal.{History}
 
+-- a call of any kind: which part of the block it is lent, its output buffer, and its complete result, whatever the lent cells hold
+pub record Call : Type 0 where
+  pub from : ℕ
+  pub lent : ℕ
+  pub outputs : List ℕ
+  pub work : List ℕ → Ran
+
+abbrev pub lentTo : Call → List ℕ → List ℕ
+lentTo c block = take (c .lent) (drop (c .from) block)
+
+abbrev pub resultOf : Call → List ℕ → Ran
+resultOf c block = c .work (lentTo c block)
+
+-- the block after a call: only the lent cells can have changed
+abbrev pub blockAfter : Call → List ℕ → List ℕ
+blockAfter c block = take (c .from) block ++ (resultOf c block .cells ++ drop (c .lent) (drop (c .from) block))
+
+-- a call that these cells are lent to is refused, and has written nothing: they and its output buffer are as they were
+pub record Refused (c : Call) (cells : List ℕ) : Type 0 where
+  pub number : ℕ
+  pub place : ℤ
+  pub nothing : c .work cells ≡ unchanged (refused number place) cells (c .outputs)
+
 -- "A call brings ticks (0 to 4,096), inputs and outputs tick after tick, and 16 control values that hold for the call", and is lent some cells
 pub record Arguments : Type 0 where
   pub ticks : ℕ
@@ -20,36 +43,14 @@ pub record Arguments : Type 0 where
   pub outputs : List ℕ
   pub lent : ℕ
 
--- a call of any kind: its arguments, the first cell that it is lent, and its complete result from the lent cells, whatever they hold
-pub record Call : Type 0 where
-  pub arguments : Arguments
-  pub from : ℕ
-  pub work : List ℕ → Ran
-
-abbrev pub lentTo : Call → List ℕ → List ℕ
-lentTo c block = take (c .arguments .lent) (drop (c .from) block)
-
-abbrev pub resultOf : Call → List ℕ → Ran
-resultOf c block = c .work (lentTo c block)
-
--- the block after a call: only the lent cells can have changed
-abbrev pub blockAfter : Call → List ℕ → List ℕ
-blockAfter c block = take (c .from) block ++ (resultOf c block .cells ++ drop (c .arguments .lent) (drop (c .from) block))
-
--- a call that these cells are lent to is refused, and has written nothing: they and its output buffer are as they were
-pub record Refused (c : Call) (cells : List ℕ) : Type 0 where
-  pub number : ℕ
-  pub place : ℤ
-  pub nothing : c .work cells ≡ unchanged (refused number place) cells (c .arguments .outputs)
+-- what works a circuit, as a run of its code or a walk of its table: the complete result, from any arguments and lent cells
+abbrev pub Program : Type 0
+Program = Arguments → List ℕ → Ran
 
 -- in the list of a circuit: a call of its own program, or any other call
 pub data Element : Type 0 where
   own : Arguments → Element
   other : Call → Element
-
-abbrev pub argumentsOf : Element → Arguments
-argumentsOf (own a) = a
-argumentsOf (other c) = c .arguments
 
 -- an element of the list, the cells that it was lent, and what came of it
 pub record Event : Type 0 where
@@ -57,46 +58,50 @@ pub record Event : Type 0 where
   pub given : List ℕ
   pub result : Ran
 
+abbrev pub bufferOf : Element → List ℕ
+bufferOf (own a) = a .outputs
+bufferOf (other c) = c .outputs
+
 -- "Any other refused calls, runs of other code included, may lie between."
 abbrev pub RefusedIfOther : Element → List ℕ → Type 0
 RefusedIfOther (own a) cells = Unit {0}
 RefusedIfOther (other c) cells = Refused c cells
 
--- the ticks that a call adds to the history, n inputs to a tick: those of an accepted one, and none of a refused one
-abbrev pub ticksAdded : ℕ → Arguments → Answer → List Tick
-ticksAdded n a (counts ks) = ticksOf n (a .controls) (a .ticks) (a .inputs)
-ticksAdded n a (refused r p) = []
+-- "An accepted one adds its ticks with their inputs and its controls to the history", n inputs to a tick; a refused one "adds no tick"
+abbrev pub ticksAdded : ℕ → Element → Answer → List Tick
+ticksAdded n (own a) (counts ks) = ticksOf n (a .controls) (a .ticks) (a .inputs)
+ticksAdded n (own a) (refused r p) = []
+ticksAdded n (other c) answer = []
 
 abbrev pub addedBy : ℕ → Event → List Tick
-addedBy n e = ticksAdded n (argumentsOf (e .element)) (e .result .answer)
+addedBy n e = ticksAdded n (e .element) (e .result .answer)
 
 -- the samples that a call wrote
 abbrev pub writtenBy : Event → List ℕ
 writtenBy e = take (counted (e .result .answer)) (e .result .outputs)
 
--- what works the circuit: the complete result from any arguments and lent cells
-abbrev pub Program : Type 0
-Program = Arguments → List ℕ → Ran
-
 -- the program's calls are lent cells from `at` on
 module _ (work : Program) (at : ℕ) where
   abbrev pub callOf : Element → Call
-  callOf (own a) = record { arguments = a; from = at; work = work a }
+  callOf (own a) = record { from = at; lent = a .lent; outputs = a .outputs; work = work a }
   callOf (other c) = c
+
+  abbrev pub eventOf : List ℕ → Element → Event
+  eventOf block x = record { element = x; given = lentTo (callOf x) block; result = resultOf (callOf x) block }
 
   unfoldable pub events : List ℕ → List Element → List Event
   events block [] = []
-  events block (x ∷ xs) = record { element = x; given = lentTo (callOf x) block; result = resultOf (callOf x) block } ∷ events (blockAfter (callOf x) block) xs
+  events block (x ∷ xs) = eventOf block x ∷ events (blockAfter (callOf x) block) xs
 
   -- the block that the list leaves
   unfoldable pub left : List ℕ → List Element → List ℕ
   left block [] = block
   left block (x ∷ xs) = left (blockAfter (callOf x) block) xs
 
-  -- the history of the list, n inputs to a tick, the latest tick first; and all that it wrote, the first sample first
-  unfoldable pub history : ℕ → List ℕ → List Element → History
+  -- the history that goes on from a past with the ticks of the list, n inputs to a tick, the latest tick first; and all that the list wrote, the first sample first
+  unfoldable pub history : ℕ → History → List ℕ → List Element → History
   unfolding events flatten
-  history n block xs = reverse (flatten (map (addedBy n) (events block xs)))
+  history n past block xs = reverseAux (flatten (map (addedBy n) (events block xs))) past
 
   unfoldable pub written : List ℕ → List Element → List ℕ
   unfolding events flatten

@@ -2,3 +2,4 @@ pub mod Alike
 pub mod Demand3
 pub mod Borders
 mod Example
+mod QuietExample

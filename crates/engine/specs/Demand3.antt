@@ -2,23 +2,47 @@
 use Prim.Native.Nat.{ℕ, _≤_}
 use mathlib.Core.Path.{_≡_}
 use mathlib.Core.List.{List}
+use lib.IntN.{ℤ}
+use lib.ListN.{take}
 use Rattle.refusal.specs.Answer.{count}
-use Rattle.cells.specs.Load.{loaded}
-use Rattle.arity.specs.declared.CheckAnswer.{CheckAnswer}
+use Rattle.refusal.specs.Answer.Answer.{refused}
 use Rattle.arity.specs.declared.CheckAnswer.the-variants.{Accepted}
 use Rattle.arity.specs.Table.{nodes, circuit}
+use Rattle.arity.specs.Nodes.{cellsBefore}
 use Rattle.arity.specs.Checked.{Checked}
 use Rattle.arity.specs.Promise.{Words}
-use Rattle.calls.specs.Calls.{Element, OthersRefused}
-use Rattle.calls.specs.Law.{LawfulThroughout}
+use Rattle.calls.specs.Calls.{Arguments}
+use Rattle.calls.specs.Law.{LawfulFromPast}
+use Rattle.calls.specs.Loads.{LawfulFromLoad}
+use Rattle.translator.specs.declared.TranslateAnswer.{TranslateAnswer}
 use Rattle.translator.specs.Translated.{translated}
+use Rattle.translator.specs.Translate.{answerOf, Translates}
 use Rattle.engine.specs.Runs.{runOf}
 
--- "Take any accepted table whose translation needs at most 2,048 instructions and 16,384 cells, and cells that a load has cleared for it, whatever they held
--- before. For every list of runs of the translated code", with "any other refused calls, runs of other code included," between, each lent the cells as the
--- last left them: the law of the list, of its cut after each tick, and of ticks without demand.
+-- "Take any accepted table whose translation needs at most 2,048 instructions and 16,384 cells"
+pub record Runnable (table : List ℕ) (cells : ℕ) : Type 0 where
+  pub inputs : ℕ
+  pub outputs : ℕ
+  pub instructions : ℕ
+  pub accepted : Checked table (Accepted inputs outputs instructions cells)
+  pub words : Words table
+  pub short : instructions ≤ 2048
+  pub few : cells ≤ 16384
+
+-- ", and cells that a load has cleared for it, whatever they held before. For every list of runs of the translated code", with "any other refused calls, runs
+-- of other code included," between, each lent the cells as the last left them: the law of the list, of its cut after each tick, and of ticks without demand.
 abbrev pub Demand3 : List ℕ → Type 0
-Demand3 table = (answer : CheckAnswer) (n m i d : ℕ) → Checked table answer → answer ≡ Accepted n m i d → Words table → i ≤ 2048 → d ≤ 16384
-    → (named : ℕ) (cells : List ℕ) → loaded named cells .answer ≡ count named → d ≤ named
-    → (list : List Element) → OthersRefused (runOf (translated table)) 0 (loaded named cells .cells) list
-    → LawfulThroughout (nodes table) (circuit table) (runOf (translated table)) 0 (loaded named cells .cells) list
+Demand3 table = (d : ℕ) → Runnable table d → LawfulFromLoad (nodes table) (circuit table) (runOf (translated table)) d
+
+-- the same from any past, at any place of a block
+abbrev pub RunsGoOn : List ℕ → Type 0
+RunsGoOn table = (d : ℕ) → Runnable table d → LawfulFromPast (nodes table) (circuit table) (runOf (translated table))
+
+-- "Their code is the translator's for the table and never gets refusal 13": from any cells
+abbrev pub Never13 : List ℕ → Type 0
+Never13 table = (d : ℕ) → Runnable table d → (a : Arguments) (cells : List ℕ) (p : ℤ) → runOf (translated table) a cells .answer ≡ refused 13 p → ⊥
+
+-- demand 3 of the numbers that `translate` has written, wherever it answers with a count
+abbrev pub DeliveredRuns : List ℕ → Type 0
+DeliveredRuns table = (code code′ : List ℕ) (a : TranslateAnswer) → Translates table code a code′ → (c : ℕ) → answerOf a ≡ count c → Words table
+    → LawfulFromLoad (nodes table) (circuit table) (runOf (take c code′)) (cellsBefore (circuit table) (nodes table))

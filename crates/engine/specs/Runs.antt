@@ -10,4 +10,4 @@ runOf code a cells = ran code (a .ticks) (a .inputs) (a .controls) cells (a .out
 
 -- a run, lent cells from `from` on
 abbrev pub runCall : List ℕ → Arguments → ℕ → Call
-runCall code a from = record { arguments = a; from = from; work = runOf code a }
+runCall code a from = record { from = from; lent = a .lent; outputs = a .outputs; work = runOf code a }
