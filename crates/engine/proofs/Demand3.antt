@@ -37,10 +37,10 @@ module _ (table : List ℕ) (d : ℕ) (r : Runnable table d) where
 
   own-run : IsProgramOf (nodes table) (circuit table) (runOf (translated table))
   unfolding translated
-  own-run a cells = run-is-walk (nodes table) (circuit table) (p .wellFormed) (p .complete) (a .ticks) (a .inputs) (a .controls) cells (a .outputs) (p .small (r .short) (r .few))
+  own-run a cells = run-is-walk (nodes table) (circuit table) (p .wellFormed) (p .complete) (a .ticks) (a .inputs) (a .controls) cells (a .outputs) (p .small (omega (arith, r .short)) (omega (arith, r .few)))
 
 pub demand-3 : (table : List ℕ) → Demand3 table
-demand-3 table d r = from-load (nodes table) (circuit table) (p table d r .wellFormed) (p table d r .complete) (runOf (translated table)) (own-run table d r) d (omega (arith, p table d r .celled))
+demand-3 table d r = from-load (nodes table) (circuit table) (p table d r .wellFormed) (p table d r .complete) (runOf (translated table)) (own-run table d r) _ (omega (arith, p table d r .celled, r .few))
 
 pub runs-go-on : (table : List ℕ) → RunsGoOn table
 runs-go-on table d r = from-past (nodes table) (circuit table) (p table d r .wellFormed) (p table d r .complete) (runOf (translated table)) (own-run table d r)

@@ -73,4 +73,4 @@ walks-go-on table n m i d k words few p =
 pub walks-lawful : (table : List ℕ) → WalksLawful table
 walks-lawful table n m i d k words few p =
     let g = promise k refl words in
-    from-load (nodes table) (circuit table) (g .wellFormed) (g .complete) (walkOf p table) (own-walk table n m i d k words (omega arith) p) d (omega (arith, g .celled))
+    from-load (nodes table) (circuit table) (g .wellFormed) (g .complete) (walkOf p table) (own-walk table n m i d k words (omega arith) p) _ (omega (arith, g .celled))
