@@ -4,12 +4,12 @@ use mathlib.Core.Path.{_≡_, refl, sym, ap, ap₂, _∙_}
 use mathlib.Core.Logic.{_⊎_, inl, inr}
 use mathlib.Core.List.{List, [], _∷_, _++_}
 use native.Mathlib.Omega.{arith}
-use lib.ListN.{length, getD, drop, take, List·getD-append}
+use lib.ListN.{length, drop, take, List·getD-append}
 use lib.Seq.{getD-append-add, length-take-le}
 use Rattle.word.specs.Tick.{Tick, headOr, zeros}
 use Rattle.cells.specs.Cells.{part}
 use Rattle.cells.proofs.Parts.{part-agree}
-use Rattle.arity.specs.Tree.{Tree, ins, outs, size}
+use Rattle.arity.specs.Tree.{Tree, outs, size}
 use Rattle.arity.specs.Tree.Tree.{ondemand}
 use Rattle.arity.specs.Nodes.{Numbered, Complete, subtree, cellsBefore}
 use Rattle.arity.specs.WellFormed.{WellFormed}

@@ -86,12 +86,12 @@ start base n (join i c l r) q = (
 )
 start base n (ondemand i b) q = (part-zeros (base i) _ n (q .0) ∙ sym (contents-start (ondemand i b)), start base n b (q .1))
 
-pub record Ran (base : ℕ → ℕ) (t : Tree) (n : ℕ) (h : History) : Type 0 where
+pub record RunRight (base : ℕ → ℕ) (t : Tree) (n : ℕ) (h : History) : Type 0 where
   pub outputs : given base t (zeros n) h ≡ signal t h
   pub holds : Holds base t h (after base t (zeros n) h)
   pub long : length (after base t (zeros n) h) ≡ n
 
-pub run-right : (base : ℕ → ℕ) (t : Tree) (n : ℕ) → WellFormed t → Placed base n t → (h : History) → Ran base t n h
+pub run-right : (base : ℕ → ℕ) (t : Tree) (n : ℕ) → WellFormed t → Placed base n t → (h : History) → RunRight base t n h
 unfolding given
 run-right base t n w q [] = record { outputs = sym (causal t .empty); holds = start base n t q; long = length-replicate n 0 }
 run-right base t n w q (f ∷ h) =
@@ -104,11 +104,11 @@ run-right base t n w q (f ∷ h) =
     }
 
 -- the walker on a table's circuit: the cells of the nodes stand in node order
-pub record Walked (n : ℕ) (t : Tree) (h : History) : Type 0 where
+pub record WalkRight (n : ℕ) (t : Tree) (h : History) : Type 0 where
   pub outputs : given (cellsBefore t) t (zeros (cellsBefore t n)) h ≡ signal t h
   pub cells : after (cellsBefore t) t (zeros (cellsBefore t n)) h ≡ cellsAfter n t h
 
-pub walk-right : (n : ℕ) (t : Tree) → WellFormed t → Complete n t → (h : History) → Walked n t h
+pub walk-right : (n : ℕ) (t : Tree) → WellFormed t → Complete n t → (h : History) → WalkRight n t h
 walk-right n t w c h =
     let N : ℕ = cellsBefore t n in
     let p = run-right (cellsBefore t) t N w (all-placed n t c) h in

@@ -3,7 +3,7 @@ use Prim.Native.Nat.{ℕ, suc, _*_, _≤_, _<_}
 use mathlib.Core.Path.{_≡_, refl, sym, ap, _∙_}
 use mathlib.Core.List.{List, [], _∷_, _++_, map, map-append, reverseAux, reverseAux-append, flatten}
 use native.Mathlib.Omega.{arith}
-use lib.ListN.{length, drop, take}
+use lib.ListN.{take}
 use Rattle.word.specs.Tick.{Tick, Each}
 use Rattle.word.proofs.Lists.{flatten-last}
 use Rattle.word.proofs.Each.{each-append}

@@ -13,7 +13,7 @@ use Rattle.refusal.specs.Refusals.{noPlace}
 use Rattle.refusal.specs.Answer.{count, refusedAll}
 use Rattle.cells.specs.Load.{loaded}
 use Rattle.cells.specs.Block.{called, answered, played, refusal}
-use Rattle.arity.specs.Tree.{ins, outs, size}
+use Rattle.arity.specs.Tree.{ins, outs}
 use Rattle.arity.specs.Table.{nodes, circuit, tree}
 use Rattle.arity.specs.Nodes.{cellsBefore}
 use Rattle.arity.specs.Check.{checked}

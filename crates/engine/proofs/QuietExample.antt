@@ -7,8 +7,8 @@ use native.Mathlib.Omega.{arith}
 use Rattle.word.specs.Tick.{Tick, tick, zeros}
 use Rattle.word.specs.Operation.{demand}
 use Rattle.cells.specs.Load.{loaded}
-use Rattle.arity.specs.Tree.{Tree, ins, outs}
-use Rattle.arity.specs.Tree.Tree.{leaf, ondemand}
+use Rattle.arity.specs.Tree.{ins, outs}
+use Rattle.arity.specs.Tree.Tree.{leaf}
 use Rattle.arity.specs.Tree.Primitive.{cable}
 use Rattle.arity.specs.Table.{nodes, circuit, tree, treeAt}
 use Rattle.arity.specs.Nodes.{Numbered, subtree, cellsBefore}

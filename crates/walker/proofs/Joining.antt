@@ -6,7 +6,7 @@ use native.Mathlib.Omega.{arith}
 use native.Mathlib.Decide.{ℕ-discrete}
 use lib.Dec.{eqb}
 use Rattle.word.specs.Choice.{pick}
-use Rattle.word.specs.Tick.{Beam, Tick, tick, Stepped, stepped}
+use Rattle.word.specs.Tick.{Beam, Tick, tick, stepped}
 use Rattle.arity.specs.Tree.{Tree, Composition, ins}
 use Rattle.arity.specs.Tree.Tree.{join}
 use Rattle.arity.specs.Tree.Composition.{sequence, parallel, split, merge, recursion}
