@@ -14,7 +14,7 @@ use lib.Seq.{sets, length-sets, getD-drop, length-take-le}
 use Rattle.refusal.specs.Answer.{count, refusedAt, refusedAll}
 use Rattle.word.specs.Word.{value}
 use Rattle.word.proofs.Low.{value-small}
-use Rattle.column.specs.Checks.{called}
+use Rattle.refusal.specs.Outcome.{outcome}
 use Rattle.column.specs.Number.{numeral, column}
 use Rattle.column.specs.Line.{lineFeed, columns, nodeLine}
 use Rattle.column.specs.File.{node, lineOf, linesFrom, countRefusal, writing}
@@ -160,17 +160,17 @@ writing-ends table nodes file₀ file node w m t h l p =
 
 -- the whole call
 module _ (table file : List ℕ) where
-  pub write-empty : length table ≡ 0 → called (refusedAt 3 0) file ≡ writing table file
+  pub write-empty : length table ≡ 0 → outcome (refusedAt 3 0) file ≡ writing table file
   unfolding writing countRefusal
   write-empty h = rw (eq-eqb (length table) 0 h)
 
   module _ (some-number : length table ≡ 0 → ⊥) where
-    pub write-uneven : (length table % 3 ≡ 0 → ⊥) → called (refusedAt 3 0) file ≡ writing table file
+    pub write-uneven : (length table % 3 ≡ 0 → ⊥) → outcome (refusedAt 3 0) file ≡ writing table file
     unfolding writing countRefusal
     write-uneven h = rw (ne-eqb (length table) 0 some-number, ne-eqb (length table % 3) 0 h)
 
     module _ (even : length table % 3 ≡ 0) where
-      pub write-many : 512 < length table / 3 → called (refusedAt 3 512) file ≡ writing table file
+      pub write-many : 512 < length table / 3 → outcome (refusedAt 3 512) file ≡ writing table file
       unfolding writing countRefusal
       write-many h = rw (ne-eqb (length table) 0 some-number, eq-eqb (length table % 3) 0 even, lt-ltb 512 (length table / 3) h)
 
@@ -179,11 +179,11 @@ module _ (table file : List ℕ) where
         unfolding countRefusal
         count-right = rw (ne-eqb (length table) 0 some-number, eq-eqb (length table % 3) 0 even, le-ltb 512 (length table / 3) few)
 
-        pub write-short : length file < 41 * (length table / 3) → called (refusedAll 12) file ≡ writing table file
+        pub write-short : length file < 41 * (length table / 3) → outcome (refusedAll 12) file ≡ writing table file
         unfolding writing
         write-short h = rw (count-right, lt-ltb (length file) (41 * (length table / 3)) h)
 
         pub write-put : (file′ : List ℕ) → 41 * (length table / 3) ≤ length file → file′ ≡ linesFrom table 0 (length table / 3) ++ drop (41 * (length table / 3)) file →
-            called (count (41 * (length table / 3))) file′ ≡ writing table file
+            outcome (count (41 * (length table / 3))) file′ ≡ writing table file
         unfolding writing
         write-put file′ h e = rw (count-right, le-ltb (length file) (41 * (length table / 3)) h, e)

@@ -75,8 +75,8 @@ demand-3 table answer n m i d k e words li ld named cells f enough list o =
 -- the same of the numbers that `translate` has written, wherever it answers with a count
 pub delivered-runs : {table code code′ : List ℕ} {a : TranslateAnswer} (t : Translates table code a code′) (c : ℕ) → answerOf a ≡ count c → Words table
     → (named : ℕ) (cells : List ℕ) → loaded named cells .answer ≡ count named → cellsBefore (circuit table) (nodes table) ≤ named
-    → (list : List Element) → OthersRefused (runOf (take c code′)) 0 (loaded named cells .cells) list
-    → LawfulThroughout (nodes table) (circuit table) (runOf (take c code′)) 0 (loaded named cells .cells) list
+    → (list : List Element) → OthersRefused (runOf (take c code′)) 0 (loaded named cells .buffer) list
+    → LawfulThroughout (nodes table) (circuit table) (runOf (take c code′)) 0 (loaded named cells .buffer) list
 delivered-runs {table} t c e words named cells f enough =
     let k = was-accepted t c e in
     let d = is-delivered t c e in

@@ -48,7 +48,7 @@ list =
 
 -- cells that held something
 abbrev block : List ℕ
-block = loaded 1 (7 ∷ 9 ∷ []) .cells
+block = loaded 1 (7 ∷ 9 ∷ []) .buffer
 
 others-refused : OthersRefused (runOf (translated integrator)) 0 block list
 unfolding OthersRefused loaded walkedTable checked ran codeOk

@@ -20,5 +20,5 @@ use Rattle.engine.specs.Runs.{runOf}
 abbrev pub Demand3 : List ℕ → Type 0
 Demand3 table = (answer : CheckAnswer) (n m i d : ℕ) → Checked table answer → answer ≡ Accepted n m i d → Words table → i ≤ 2048 → d ≤ 16384
     → (named : ℕ) (cells : List ℕ) → loaded named cells .answer ≡ count named → d ≤ named
-    → (list : List Element) → OthersRefused (runOf (translated table)) 0 (loaded named cells .cells) list
-    → LawfulThroughout (nodes table) (circuit table) (runOf (translated table)) 0 (loaded named cells .cells) list
+    → (list : List Element) → OthersRefused (runOf (translated table)) 0 (loaded named cells .buffer) list
+    → LawfulThroughout (nodes table) (circuit table) (runOf (translated table)) 0 (loaded named cells .buffer) list

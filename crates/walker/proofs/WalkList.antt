@@ -82,6 +82,6 @@ walks-lawful table answer n m i d k e words few named cells f enough p list o =
 
 -- at the border, 16,384 cells and a load that named just these, whatever the count of instructions: a premise that asked for more would fail here
 largest-walks : (table : List ℕ) (n m i : ℕ) → Checked table (Accepted n m i 16384) → Words table → (cells : List ℕ) → loaded 16384 cells .answer ≡ count 16384
-    → (p : ℕ) (list : List Element) → OthersRefused (walkOf p table) 0 (loaded 16384 cells .cells) list
-    → LawfulThroughout (nodes table) (circuit table) (walkOf p table) 0 (loaded 16384 cells .cells) list
+    → (p : ℕ) (list : List Element) → OthersRefused (walkOf p table) 0 (loaded 16384 cells .buffer) list
+    → LawfulThroughout (nodes table) (circuit table) (walkOf p table) 0 (loaded 16384 cells .buffer) list
 largest-walks table n m i k words cells f = walks-lawful table _ n m i 16384 k refl words (omega arith) 16384 cells f (omega arith)

@@ -26,5 +26,5 @@ walkCall p table a from = record { arguments = a; from = from; work = walkOf p t
 abbrev pub Walks : List ℕ → Type 0
 Walks table = (answer : CheckAnswer) (n m i d : ℕ) → Checked table answer → answer ≡ Accepted n m i d → Words table → d ≤ 16384
     → (named : ℕ) (cells : List ℕ) → loaded named cells .answer ≡ count named → d ≤ named
-    → (p : ℕ) (list : List Element) → OthersRefused (walkOf p table) 0 (loaded named cells .cells) list
-    → LawfulThroughout (nodes table) (circuit table) (walkOf p table) 0 (loaded named cells .cells) list
+    → (p : ℕ) (list : List Element) → OthersRefused (walkOf p table) 0 (loaded named cells .buffer) list
+    → LawfulThroughout (nodes table) (circuit table) (walkOf p table) 0 (loaded named cells .buffer) list
