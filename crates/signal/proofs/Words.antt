@@ -16,17 +16,7 @@ use Rattle.arity.specs.Tree.Primitive.{number, control, operation, delay, cable
 use Rattle.arity.specs.Tree.Composition.{sequence, parallel, split, merge, recursion}
 use Rattle.arity.specs.WellFormed.{Known, WellFormed}
 use Rattle.signal.specs.Signal.{History, Processor, inputsOf, wire, rewire, beside, ago, primitive, primitives, copies, fill, sumFrom, sumsFrom, sums, late, loop, demanded, demands, hold, signal}
-
--- a tick of words, and a processor that makes words of words
-pub record WordTick (f : Tick) : Type 0 where
-  pub inputs : Words (f .inputs)
-  pub controls : Words (f .controls)
-
-abbrev pub WordHistory : History → Type 0
-WordHistory h = Each WordTick h
-
-abbrev pub Keeps : Processor → Type 0
-Keeps p = (h : History) → WordHistory h → Each Words (p h)
+use Rattle.signal.specs.Laws.{WordTick, WordHistory, KeepsWords, AllKeepWords}
 
 words-append : (xs ys : Beam) → Words xs → Words ys → Words (xs ++ ys)
 words-append = each-append (λ x. x < 2 ^ 32)
@@ -101,16 +91,16 @@ primitive-words (delay d) k f past w = (ago-word (f ∷ past) (clamp (getD (f .i
 primitive-words cable k f past w = (word-at (f .inputs) 0 (w .0 .inputs), tt)
 primitive-words cut k f past w = tt
 
-primitives-words : (p : Primitive) → Known p → Keeps (primitives p)
+primitives-words : (p : Primitive) → Known p → KeepsWords (primitives p)
 unfolding primitives
 primitives-words p k [] w = tt
 primitives-words p k (f ∷ past) w = (primitive-words p k f past w, primitives-words p k past (w .1))
 
 -- a processor behind given beams
-wired : (p : Processor) → Keeps p → (h : History) → WordHistory h → (ys : List Beam) → Each Words ys → Each Words (p (wire h ys))
+wired : (p : Processor) → KeepsWords p → (h : History) → WordHistory h → (ys : List Beam) → Each Words ys → Each Words (p (wire h ys))
 wired p k h w ys v = k (wire h ys) (wire-words h ys w v)
 
-loop-words : (left right : Processor) (q : ℕ) → Keeps left → Keeps right → Keeps (loop left right q)
+loop-words : (left right : Processor) (q : ℕ) → KeepsWords left → KeepsWords right → KeepsWords (loop left right q)
 unfolding loop
 loop-words left right q kl kr [] w = tt
 loop-words left right q kl kr (f ∷ past) w =
@@ -122,7 +112,7 @@ loop-words left right q kl kr (f ∷ past) w =
     (inputs-words (f ∷ past) w))
 
 -- every sample of a circuit is a word
-pub words : (t : Tree) → WellFormed t → Keeps (signal t)
+pub words : AllKeepWords
 unfolding signal WellFormed
 words (leaf i p) v h w = primitives-words p v h w
 words (join i sequence l r) v h w = wired (signal r) (words r (v .1)) h w (signal l h) (words l (v .0) h w)
