@@ -7,7 +7,7 @@ use Rattle.word.specs.Choice.{pick}
 use Rattle.word.specs.Operation.{add}
 use Rattle.word.specs.Word.{clamp}
 use Rattle.word.specs.Tick.{Beam, Tick, tick, headOr, tailOf, zeros, Each, Words}
-use Rattle.word.proofs.Each.{each-append, each-take, each-drop, each-head, each-tail, each-map, word-at, words-zeros}
+use Rattle.word.proofs.Each.{each-append, each-drop, each-head, each-tail, each-map, word-at, words-zeros, words-append, words-take, words-drop}
 use Rattle.word.proofs.Low.{low-word}
 use Rattle.word.proofs.Forms.{operate-word}
 use Rattle.arity.specs.Tree.{Tree, Primitive, ins, outs}
@@ -17,15 +17,6 @@ use Rattle.arity.specs.Tree.Composition.{sequence, parallel, split, merge, recu
 use Rattle.arity.specs.WellFormed.{Known, WellFormed}
 use Rattle.signal.specs.Signal.{History, Processor, inputsOf, wire, rewire, beside, ago, primitive, primitives, copies, fill, sumFrom, sumsFrom, sums, late, loop, demanded, demands, hold, signal}
 use Rattle.signal.specs.Laws.{WordTick, WordHistory, KeepsWords, AllKeepWords}
-
-words-append : (xs ys : Beam) → Words xs → Words ys → Words (xs ++ ys)
-words-append = each-append (λ x. x < 2 ^ 32)
-
-words-take : (n : ℕ) (xs : Beam) → Words xs → Words (take n xs)
-words-take = each-take (λ x. x < 2 ^ 32)
-
-words-drop : (n : ℕ) (xs : Beam) → Words xs → Words (drop n xs)
-words-drop = each-drop (λ x. x < 2 ^ 32)
 
 head-words : (ys : List Beam) → Each Words ys → Words (headOr [] ys)
 head-words ys w = each-head Words [] ys tt w
