@@ -16,6 +16,6 @@ module _ (n : ℕ) (t : Tree) (w : WellFormed t) (c : Complete n t) (work : Prog
   abbrev N : ℕ
   N = cellsBefore t n
 
-  just-loaded : (cells : List ℕ) → loaded N cells .answer ≡ count N → (list : List Element) → OthersRefused work 0 (loaded N cells .cells) list
-      → LawfulThroughout n t work 0 [] (loaded N cells .cells) list
+  just-loaded : (cells : List ℕ) → loaded N cells .answer ≡ count N → (list : List Element) → OthersRefused work 0 (loaded N cells .buffer) list
+      → LawfulThroughout n t work 0 [] (loaded N cells .buffer) list
   just-loaded cells e = from-load n t w c work same N (omega arith) N cells e (omega arith)

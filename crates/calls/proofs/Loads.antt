@@ -12,8 +12,9 @@ use Rattle.word.specs.Choice.{pick}
 use Rattle.word.specs.Tick.{zeros}
 use Rattle.refusal.specs.Answer.{count, refusedAll}
 use Rattle.refusal.specs.Answer.Answer.{refused}
+use Rattle.refusal.specs.Outcome.{Outcome, outcome}
 use Rattle.cells.specs.Block.{ranAs}
-use Rattle.cells.specs.Load.{Loaded, loadedAs, loaded}
+use Rattle.cells.specs.Load.{loaded}
 use Rattle.arity.specs.Tree.{Tree}
 use Rattle.arity.specs.Nodes.{Complete, cellsBefore}
 use Rattle.arity.specs.WellFormed.{WellFormed}
@@ -24,15 +25,15 @@ use Rattle.calls.proofs.Run.{after, walk-right}
 use Rattle.calls.proofs.Throughout.{from-past}
 
 -- the ends of a load: the cleared cells, or a refusal
-data LoadEnd (named : ℕ) (cells : List ℕ) : Loaded → Type 0 where
-  clears : LoadEnd named cells (loadedAs (count named) (zeros named ++ drop named cells))
-  refuses : (x : ℕ) → LoadEnd named cells (loadedAs (refusedAll x) cells)
+data LoadEnd (named : ℕ) (cells : List ℕ) : Outcome → Type 0 where
+  clears : LoadEnd named cells (outcome (count named) (zeros named ++ drop named cells))
+  refuses : (x : ℕ) → LoadEnd named cells (outcome (refusedAll x) cells)
 
 load-end : (named : ℕ) (cells : List ℕ) → LoadEnd named cells (loaded named cells)
 unfolding loaded
 load-end named cells = go (leb named 16384) (leb named (length cells))
   where
-    go : (a b : Bool) → LoadEnd named cells (pick a (pick b (loadedAs (count named) (zeros named ++ drop named cells)) (loadedAs (refusedAll 12) cells)) (loadedAs (refusedAll 11) cells))
+    go : (a b : Bool) → LoadEnd named cells (pick a (pick b (outcome (count named) (zeros named ++ drop named cells)) (outcome (refusedAll 12) cells)) (outcome (refusedAll 11) cells))
     go true true = clears
     go true false = refuses 12
     go false b = refuses 11
@@ -43,10 +44,10 @@ first-zeros k n xs h =
     rw (e, ← replicate-append-replicate {A = ℕ} k (n - k) 0, append-assoc) (take-at (zeros k) (zeros (n - k) ++ xs) k (length-replicate k 0))
 
 -- a load that named at least k has cleared the first k cells
-cleared : (named : ℕ) (cells : List ℕ) → loaded named cells .answer ≡ count named → (k : ℕ) → k ≤ named → take k (loaded named cells .cells) ≡ zeros k
+cleared : (named : ℕ) (cells : List ℕ) → loaded named cells .answer ≡ count named → (k : ℕ) → k ≤ named → take k (loaded named cells .buffer) ≡ zeros k
 cleared named cells e k h = go (loaded named cells) (load-end named cells) e
   where
-    go : (l : Loaded) → LoadEnd named cells l → l .answer ≡ count named → take k (l .cells) ≡ zeros k
+    go : (l : Outcome) → LoadEnd named cells l → l .answer ≡ count named → take k (l .buffer) ≡ zeros k
     go l clears f = first-zeros k named (drop named cells) h
     go l (refuses x) f = absurd (let z : _≡_ {A = ℕ} 0 1 = cc in omega arith)
 
@@ -54,12 +55,12 @@ cleared named cells e k h = go (loaded named cells) (load-end named cells) e
 pub from-load : (n : ℕ) (t : Tree) → WellFormed t → Complete n t → (work : Program) → IsProgramOf n t work → (d : ℕ) → cellsBefore t n ≤ d → LawfulFromLoad n t work d
 unfolding after
 from-load n t w c work same d enough named cells e h =
-    from-past n t w c work same 0 [] (loaded named cells .cells)
+    from-past n t w c work same 0 [] (loaded named cells .buffer)
     (record { inside = omega arith; cells = cleared named cells e (cellsBefore t n) (omega arith) ∙ walk-right n t w c [] .cells })
 
 pub refused-load : (named from lent : ℕ) (cells : List ℕ) (x : ℕ) (p : ℤ) → loaded named cells .answer ≡ refused x p → Refused (loadCall named from lent) cells
 refused-load named from lent cells x p e = record { number = x; place = p; nothing = go (loaded named cells) (load-end named cells) e }
   where
-    go : (l : Loaded) → LoadEnd named cells l → l .answer ≡ refused x p → ranAs (l .answer) (l .cells) [] ≡ ranAs (refused x p) cells []
+    go : (l : Outcome) → LoadEnd named cells l → l .answer ≡ refused x p → ranAs (l .answer) (l .buffer) [] ≡ ranAs (refused x p) cells []
     go l clears f = absurd (let z : _≡_ {A = ℕ} 0 1 = cc in omega arith)
     go l (refuses y) f = cc

@@ -6,6 +6,7 @@ use lib.Dec.{leb}
 use Rattle.word.specs.Choice.{pick}
 use Rattle.word.specs.Tick.{zeros}
 use Rattle.refusal.specs.Answer.{Answer, count, refusedAll, refusalOf}
+use Rattle.refusal.specs.Outcome.{Outcome, outcome}
 use Rattle.cells.specs.declared.LoadAnswer.{LoadAnswer}
 use Rattle.cells.specs.declared.LoadAnswer.the-variants.{Cells, Refused}
 
@@ -14,19 +15,11 @@ abbrev pub answerOf : LoadAnswer → Answer
 answerOf (Cells n) = count n
 answerOf (Refused r) = refusalOf r
 
--- the complete result of a load: its answer and the cells after it
-pub record Loaded : Type 0 where
-  pub answer : Answer
-  pub cells : List ℕ
-
-abbrev pub loadedAs : Answer → List ℕ → Loaded
-loadedAs a cs = record { answer = a; cells = cs }
-
--- "Load: 11, 12"; a refusal changes nothing
-unfoldable pub loaded : ℕ → List ℕ → Loaded
+-- the complete result of a load: "Load: 11, 12"; a refusal changes nothing
+unfoldable pub loaded : ℕ → List ℕ → Outcome
 loaded named cells =
     pick (leb named 16384)
     (pick (leb named (length cells))
-    (record { answer = count named; cells = zeros named ++ drop named cells })
-    (record { answer = refusedAll 12; cells = cells }))
-    (record { answer = refusedAll 11; cells = cells })
+    (outcome (count named) (zeros named ++ drop named cells))
+    (outcome (refusedAll 12) cells))
+    (outcome (refusedAll 11) cells)

@@ -7,7 +7,8 @@ ghost use Prim.Native.Nat.{ℕ, _+_, _-_, _*_, _%_, _^_, _<_, _≤_};
 ghost use lib.ListN.{length, getD, drop};
 ghost use Rattle.word.specs.Word.{clamp as clampOf};
 ghost use Rattle.word.specs.Tick.{zeros};
-ghost use Rattle.cells.specs.Load.{loaded, loadedAs, answerOf};
+ghost use Rattle.refusal.specs.Outcome.{outcome};
+ghost use Rattle.cells.specs.Load.{loaded, answerOf};
 ghost use Rattle.cells.specs.Block.{blockOk};
 ghost use Rattle.cells.specs.Delay.{position as positionOf, delayed as delayedOf, moved as movedOf};
 
@@ -130,7 +131,7 @@ pub enum LoadAnswer {
 
 // The load: the named count of cells is set to 0.
 pub fn load(named: u32, cells: &mut [u32]) -> LoadAnswer
-    ensures { λ r. ⌜ loadedAs (answerOf r) (now (cells .exit)) ≡ loaded named (now (cells .entry)) ⌝ }
+    ensures { λ r. ⌜ outcome (answerOf r) (now (cells .exit)) ≡ loaded named (now (cells .entry)) ⌝ }
 {
     let count = index(named);
     if count > 16384 {

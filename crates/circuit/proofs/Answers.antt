@@ -5,17 +5,16 @@ use mathlib.Core.List.{List, [], _∷_}
 use lib.ListN.{length}
 use borrow.Author.Tests.{le-leb, lt-leb}
 use Rattle.refusal.specs.Answer.{Answer, count, refusedAll}
+use Rattle.refusal.specs.Outcome.{Outcome, outcome}
 use Rattle.cells.specs.Cells.{store}
-use Rattle.cells.specs.Load.{Loaded, loadedAs}
 use Rattle.cells.specs.Block.{Ran, ranAs}
 use Rattle.cells.proofs.Parts.{store-parts}
 use Rattle.arity.specs.declared.CheckAnswer.{CheckAnswer}
 use Rattle.arity.specs.declared.CheckAnswer.the-variants.{Accepted}
 use Rattle.arity.specs.Checked.{Checked, answerOf}
-use Rattle.column.specs.Checks.{Called, called}
 use Rattle.translator.specs.declared.TranslateAnswer.{TranslateAnswer}
 use Rattle.translator.specs.Translate as Lower
-use Rattle.translator.specs.Translate.{Outcome, outcome, answerOf as translateAnswer}
+use Rattle.translator.specs.Translate.{answerOf as translateAnswer}
 use Rattle.walker.specs.declared.WalkAnswer.{WalkAnswer}
 use Rattle.walker.specs.Walk.{Walked, answerOf as walkAnswer}
 use Rattle.circuit.specs.Encoded.{encoded}
@@ -27,14 +26,8 @@ module _ {B : Type 0} (of : B → Answer) {a b : B} {n : ℕ} (h : n ≡ encoded
   encodes : {x : Answer} → of a ≡ x → n ≡ encoded x
   encodes f = h ∙ sym (ap (λ (y : B). encoded (of y)) e) ∙ ap encoded f
 
-  pub called-gives : {buffer : List ℕ} (x : Called) → called (of a) buffer ≡ x → (n ≡ encoded (x .answer)) × (buffer ≡ x .buffer)
-  called-gives x f = (encodes (ap (λ (y : Called). y .answer) f), ap (λ (y : Called). y .buffer) f)
-
-  pub loaded-gives : {cells : List ℕ} (x : Loaded) → loadedAs (of a) cells ≡ x → (n ≡ encoded (x .answer)) × (cells ≡ x .cells)
-  loaded-gives x f = (encodes (ap (λ (y : Loaded). y .answer) f), ap (λ (y : Loaded). y .cells) f)
-
-  pub outcome-gives : {code : List ℕ} (x : Outcome) → outcome (of a) code ≡ x → (n ≡ encoded (x .answer)) × (code ≡ x .code)
-  outcome-gives x f = (encodes (ap (λ (y : Outcome). y .answer) f), ap (λ (y : Outcome). y .code) f)
+  pub outcome-gives : {buffer : List ℕ} (x : Outcome) → outcome (of a) buffer ≡ x → (n ≡ encoded (x .answer)) × (buffer ≡ x .buffer)
+  outcome-gives x f = (encodes (ap (λ (y : Outcome). y .answer) f), ap (λ (y : Outcome). y .buffer) f)
 
   pub ran-gives : {cells outputs : List ℕ} (x : Ran) → ranAs (of a) cells outputs ≡ x → (n ≡ encoded (x .answer)) × ((cells ≡ x .cells) × (outputs ≡ x .outputs))
   ran-gives x f = (encodes (ap (λ (y : Ran). y .answer) f), (ap (λ (y : Ran). y .cells) f, ap (λ (y : Ran). y .outputs) f))
@@ -51,15 +44,15 @@ walks w e h =
 
 -- the check's report, by the case that its answer is
 module _ {table : List ℕ} {a : CheckAnswer} (k : Checked table a) (counts : List ℕ) where
-  pub reports : {b : CheckAnswer} {n : ℕ} {counts′ : List ℕ} {x : Answer} → a ≡ b → called x counts′ ≡ reportedBy (answerOf b) counts → n ≡ encoded x → Checks table counts n counts′
+  pub reports : {b : CheckAnswer} {n : ℕ} {counts′ : List ℕ} {x : Answer} → a ≡ b → outcome x counts′ ≡ reportedBy (answerOf b) counts → n ≡ encoded x → Checks table counts n counts′
   unfolding report
   reports e f h =
       let s : _ ≡ report (k .place) table counts =
       f ∙ sym (ap (λ (y : CheckAnswer). reportedBy (answerOf y) counts) e) ∙ ap (λ (y : Answer). reportedBy y counts) (k .answer) in
-      record { place = k .place; isLoose = k .isLoose; answer = h ∙ ap (λ (l : Called). encoded (l .answer)) s; report-is = ap (λ (l : Called). l .buffer) s }
+      record { place = k .place; isLoose = k .isLoose; answer = h ∙ ap (λ (l : Outcome). encoded (l .answer)) s; report-is = ap (λ (l : Outcome). l .buffer) s }
 
-pub short-report : (n m c d : ℕ) (counts : List ℕ) → length counts < 4 → called (refusedAll 12) counts ≡ reportedBy (answerOf (Accepted n m c d)) counts
+pub short-report : (n m c d : ℕ) (counts : List ℕ) → length counts < 4 → outcome (refusedAll 12) counts ≡ reportedBy (answerOf (Accepted n m c d)) counts
 short-report n m c d counts h = rw (lt-leb 4 (length counts) h)
 
-pub whole-report : (n m c d : ℕ) (counts : List ℕ) → 4 ≤ length counts → called (count 4) (store 0 (n ∷ m ∷ c ∷ d ∷ []) counts) ≡ reportedBy (answerOf (Accepted n m c d)) counts
-whole-report n m c d counts h = rw (le-leb 4 (length counts) h) (ap (called (count 4)) (store-parts 0 (n ∷ m ∷ c ∷ d ∷ []) counts h))
+pub whole-report : (n m c d : ℕ) (counts : List ℕ) → 4 ≤ length counts → outcome (count 4) (store 0 (n ∷ m ∷ c ∷ d ∷ []) counts) ≡ reportedBy (answerOf (Accepted n m c d)) counts
+whole-report n m c d counts h = rw (le-leb 4 (length counts) h) (ap (outcome (count 4)) (store-parts 0 (n ∷ m ∷ c ∷ d ∷ []) counts h))

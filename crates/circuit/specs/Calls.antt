@@ -20,7 +20,7 @@ pub record Translates (table code : List ℕ) (r : ℕ) (code′ : List ℕ) : T
   pub place : ℕ
   pub isLoose : LoosePlace table place
   pub answer : r ≡ encoded (translatedTable place table code .answer)
-  pub code-is : code′ ≡ translatedTable place table code .code
+  pub code-is : code′ ≡ translatedTable place table code .buffer
 
 -- the walker
 pub record Walks (table : List ℕ) (ticks : ℕ) (inputs controls cells outputs : List ℕ) (r : ℕ) (cells′ outputs′ : List ℕ) : Type 0 where

@@ -1,3 +1,4 @@
 pub mod Encoded
 pub mod Report
 pub mod Calls
+pub mod Halves

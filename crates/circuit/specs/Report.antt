@@ -7,20 +7,20 @@ use Rattle.word.specs.Choice.{pick}
 use Rattle.refusal.specs.Answer.{Answer, count, refusedAll}
 use Rattle.refusal.specs.Answer.Answer.{counts, refused}
 use Rattle.arity.specs.Check.{checked}
-use Rattle.column.specs.Checks.{Called, called}
+use Rattle.refusal.specs.Outcome.{Outcome, outcome}
 
 -- how many the check reports
 abbrev pub reported : ℕ
 reported = 4
 
 -- what the check's answer leaves: its refusal, or 12, "last"; else the report
-abbrev pub reportedBy : Answer → List ℕ → Called
+abbrev pub reportedBy : Answer → List ℕ → Outcome
 reportedBy (counts ks) buffer =
     pick (leb reported (length buffer))
-    (called (count reported) (ks ++ drop reported buffer))
-    (called (refusedAll 12) buffer)
-reportedBy (refused r p) buffer = called (refused r p) buffer
+    (outcome (count reported) (ks ++ drop reported buffer))
+    (outcome (refusedAll 12) buffer)
+reportedBy (refused r p) buffer = outcome (refused r p) buffer
 
 -- the complete result of a check; p is the place with refusal 9
-unfoldable pub report : ℕ → List ℕ → List ℕ → Called
+unfoldable pub report : ℕ → List ℕ → List ℕ → Outcome
 report p table = reportedBy (checked p table)

@@ -94,7 +94,7 @@ pub extern "C" fn circuit_translate(table: &[u32], code: &mut [u32]) -> u64
 #[no_mangle]
 pub extern "C" fn circuit_load(named: u32, cells: &mut [u32]) -> u64
     ensures answer { λ r. ⌜ r ≡ encoded (loaded named (now (cells .entry)) .answer) ⌝ }
-    ensures cells { λ _. ⌜ now (cells .exit) ≡ loaded named (now (cells .entry)) .cells ⌝ }
+    ensures cells { λ _. ⌜ now (cells .exit) ≡ loaded named (now (cells .entry)) .buffer ⌝ }
 {
     let answer = cells::load(named, cells);
     match answer {

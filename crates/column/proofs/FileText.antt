@@ -12,6 +12,8 @@ use lib.ListN.{length, getD, take, drop, replicate, length-append}
 use lib.Seq.{take-at, take-add, drop-at, drop-drop}
 use Rattle.word.specs.Word.{value}
 use Rattle.word.specs.Choice.{pick}
+use Rattle.word.specs.Tick.{Each, Words}
+use Rattle.word.proofs.Each.{each-append}
 use Rattle.word.proofs.Lists.{first-true}
 use Rattle.column.specs.Number.{space, minus, decimal, numeral, column}
 use Rattle.column.specs.Line.{lineFeed, columns, nodeLine, lines, before, entries, lineRefusal}
@@ -19,7 +21,7 @@ use Rattle.column.specs.File.{linesRefusal, numbers, node, lineOf, lines
 use Rattle.column.proofs.Decimal.{IsDigit, AllDigits, decimal-digits}
 use Rattle.column.proofs.Judged.{or-left, or-right}
 use Rattle.column.proofs.Storing.{Right, line-right}
-use Rattle.column.proofs.Writes.{Words, words-node, node-length}
+use Rattle.column.proofs.Writes.{words-node, node-length}
 use Rattle.column.proofs.LineText.{right-again, node-line-right, node-line-entries}
 
 -- a file is its lines
@@ -70,12 +72,10 @@ lines-bytes i (l ∷ ls) r =
 
 -- no line feed stands in a column
 abbrev NoFeed : List ℕ → Type 0
-NoFeed [] = Unit {0}
-NoFeed (b ∷ bs) = (b ≡ lineFeed → ⊥) × NoFeed bs
+NoFeed bs = Each (λ b. b ≡ lineFeed → ⊥) bs
 
 append-no-feed : (xs ys : List ℕ) → NoFeed xs → NoFeed ys → NoFeed (xs ++ ys)
-append-no-feed [] ys p q = q
-append-no-feed (x ∷ xs) ys p q = (p .0, append-no-feed xs ys (p .1) q)
+append-no-feed = each-append (λ b. b ≡ lineFeed → ⊥)
 
 spaces-no-feed : (k : ℕ) → NoFeed (replicate k space)
 spaces-no-feed zero = tt

@@ -24,10 +24,6 @@ use Rattle.column.specs.Promises.{found, firstLine}
 use Rattle.column.proofs.Texts.{read-column}
 use Rattle.column.proofs.Lines.{lines-first, first-take, first-within}
 
-or-assoc : (a b c : Option Answer) → (a or b) or c ≡ a or (b or c)
-or-assoc none b c = refl
-or-assoc (some a) b c = refl
-
 pub or-none : (a : Option Answer) → a or none ≡ a
 or-none none = refl
 or-none (some a) = refl

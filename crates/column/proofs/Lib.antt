@@ -15,3 +15,4 @@ pub mod FileText
 pub mod Refusing
 pub mod RoundTrip
 pub mod Samples
+mod Borders

@@ -13,6 +13,8 @@ use lib.ListN.{length, getD, take, drop, take-append-drop, length-drop, drop-of-
 use lib.Seq.{getD-drop, take-at, drop-at, drop-append-add, drop-drop, drop-cons, length-take-le}
 use Rattle.refusal.specs.Answer.{refusedAt}
 use Rattle.word.specs.Word.{value, low}
+use Rattle.word.specs.Tick.{Words}
+use Rattle.word.proofs.Each.{word-at}
 use Rattle.word.proofs.Low.{value-small, value-large, low-value}
 use Rattle.word.proofs.Lists.{first-true, second-true}
 use Rattle.column.specs.Checks.{when}
@@ -20,7 +22,7 @@ use Rattle.column.specs.Number.{numeral, column, numberIn, fits, wordOf}
 use Rattle.column.specs.Line.{lineFeed, columns, nodeLine, columnOf, entries, isNode, numberRefusal, lineRefusal}
 use Rattle.column.proofs.Texts.{column-length, column-read, read-column}
 use Rattle.column.proofs.Storing.{Right, when-none}
-use Rattle.column.proofs.Writes.{Words, word-room, node-room, columns-length, node-line-length}
+use Rattle.column.proofs.Writes.{word-room, node-room, columns-length, node-line-length}
 
 -- words and 32-bit numbers are one to one
 pub value-fits : (w : ℕ) → w < 2 ^ 32 → fits (value w) ≡ true
@@ -47,13 +49,13 @@ drop-past xs ys n m k e q = rw (q, ← e) (drop-append-add xs ys m)
 -- one of the columns side by side
 columns-part : (ws : List ℕ) (j : ℕ) (r : List ℕ) → Words ws → j < length ws → take 12 (drop (12 * j) (columns (map value ws) ++ r)) ≡ column 12 (value (getD ws j 0))
 columns-part [] j r w h = absurd (omega arith)
-columns-part (x ∷ ws) zero r w h =
+columns-part (x ∷ ws) zero r (p, w) h =
     rw (append-assoc (column 12 (value x)) (columns (map value ws)) r)
-    (take-at (column 12 (value x)) (columns (map value ws) ++ r) 12 (column-length 12 (value x) (word-room x (w 0))))
-columns-part (x ∷ ws) (suc j) r w h =
+    (take-at (column 12 (value x)) (columns (map value ws) ++ r) 12 (column-length 12 (value x) (word-room x p)))
+columns-part (x ∷ ws) (suc j) r (p, w) h =
     rw (append-assoc (column 12 (value x)) (columns (map value ws)) r)
-    (ap (take 12) (drop-past (column 12 (value x)) (columns (map value ws) ++ r) 12 (12 * j) (12 * suc j) (column-length 12 (value x) (word-room x (w 0))) (omega arith))
-    ∙ columns-part ws j r (λ k. w (suc k)) (omega arith))
+    (ap (take 12) (drop-past (column 12 (value x)) (columns (map value ws) ++ r) 12 (12 * j) (12 * suc j) (column-length 12 (value x) (word-room x p)) (omega arith))
+    ∙ columns-part ws j r w (omega arith))
 
 -- the line of node i with three words
 node-column : (i : ℕ) → i < 512 → length (numeral (pos i)) ≤ 4
@@ -79,7 +81,7 @@ module _ (i : ℕ) (ws : List ℕ) (few : i < 512) (w : Words ws) (n : length ws
   unfolding nodeLine
   line-number j h =
       rw (drop-past (column 4 (pos i)) (columns (map value ws) ++ (lineFeed ∷ [])) 4 (12 * j) (4 + 12 * j) first refl, columns-part ws j (lineFeed ∷ []) w (omega arith))
-      (column-read 12 (value (getD ws j 0)) (word-room (getD ws j 0) (w j)) (value-fits (getD ws j 0) (w j)))
+      (column-read 12 (value (getD ws j 0)) (word-room (getD ws j 0) (word-at ws j w)) (value-fits (getD ws j 0) (word-at ws j w)))
 
   line-feed : getD (nodeLine i (map value ws)) 40 0 ≡ lineFeed
   unfolding nodeLine
@@ -109,9 +111,9 @@ module _ (i : ℕ) (ws : List ℕ) (few : i < 512) (w : Words ws) (n : length ws
         line-number 0 (omega arith),
         line-number 1 (omega arith),
         line-number 2 (omega arith),
-        low-value (getD ws 0 0) (w 0),
-        low-value (getD ws 1 0) (w 1),
-        low-value (getD ws 2 0) (w 2),
+        low-value (getD ws 0 0) (word-at ws 0 w),
+        low-value (getD ws 1 0) (word-at ws 1 w),
+        low-value (getD ws 2 0) (word-at ws 2 w),
       )
       (three-words ws n)
 

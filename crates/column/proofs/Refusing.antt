@@ -11,7 +11,8 @@ use lib.IntN.{ℤ}
 use lib.ListN.{length, drop}
 use Rattle.refusal.specs.Answer.{Answer, count, refusedAt, refusedAll}
 use Rattle.refusal.specs.Answer.Answer.{counts, refused}
-use Rattle.column.specs.Checks.{when, _or_, Called, called, unless}
+use Rattle.column.specs.Checks.{when, _or_, unless}
+use Rattle.refusal.specs.Outcome.{Outcome, outcome}
 use Rattle.column.specs.Number.{numberIn}
 use Rattle.column.specs.Line.{lines, columnOf, whole, isNode, numberRefusal, columnRefusal, lineRefusal}
 use Rattle.column.specs.File.{linesRefusal, fileRefusal, numbers, reading, linesFrom, countRefusal, writing}
@@ -66,7 +67,7 @@ count-refusing table =
     (or-refusing (when (not (eqb (length table % 3) 0)) (refusedAt 3 0)) _ (when-refusing (not (eqb (length table % 3) 0)) 3 0) (when-refusing (ltb 512 (length table / 3)) 3 512))
 
 -- a call that answers a count was refused by no check
-counted : (r : Option Answer) (b : List ℕ) (done : Called) (n : ℕ) → Refusing r → unless r b done .answer ≡ count n → r ≡ none
+counted : (r : Option Answer) (b : List ℕ) (done : Outcome) (n : ℕ) → Refusing r → unless r b done .answer ≡ count n → r ≡ none
 counted none b done n p e = refl
 counted (some (counts ns)) b done n p e = absurd p
 counted (some (refused m q)) b done n p e = let x : _≡_ {A = ℕ} 0 1 = cc in absurd (omega arith)
@@ -76,26 +77,26 @@ pub read-counted : (file table : List ℕ) (n : ℕ) → reading file table .ans
 unfolding reading
 read-counted file table n e =
     let short : Option Answer = when (ltb (length table) (3 * length (lines file))) (refusedAll 12) in
-    let done : Called = called (count (length (lines file))) (numbers (lines file) ++ drop (3 * length (lines file)) table) in
+    let done : Outcome = outcome (count (length (lines file))) (numbers (lines file) ++ drop (3 * length (lines file)) table) in
     let c : fileRefusal file or short ≡ none =
     counted (fileRefusal file or short) table done n (or-refusing (fileRefusal file) short (file-refusing file) (when-all-refusing (ltb (length table) (3 * length (lines file))) 12)) e in
     let q : reading file table ≡ done = ap (λ (r : Option Answer). unless r table done) c in
-    let a : count (length (lines file)) ≡ count n = ap (λ (d : Called). d .answer) (sym q) ∙ e in
+    let a : count (length (lines file)) ≡ count n = ap (λ (d : Outcome). d .answer) (sym q) ∙ e in
     let k : length (lines file) ≡ n = cc in
-    (or-left (fileRefusal file) short c, (k, ap (λ (d : Called). d .buffer) q ∙ rw k))
+    (or-left (fileRefusal file) short c, (k, ap (λ (d : Outcome). d .buffer) q ∙ rw k))
 
 pub write-counted : (table file : List ℕ) (n : ℕ) → writing table file .answer ≡ count n →
     (countRefusal table ≡ none) × ((41 * (length table / 3) ≡ n) × (writing table file .buffer ≡ linesFrom table 0 (length table / 3) ++ drop n file))
 unfolding writing
 write-counted table file n e =
     let short : Option Answer = when (ltb (length file) (41 * (length table / 3))) (refusedAll 12) in
-    let done : Called = called (count (41 * (length table / 3))) (linesFrom table 0 (length table / 3) ++ drop (41 * (length table / 3)) file) in
+    let done : Outcome = outcome (count (41 * (length table / 3))) (linesFrom table 0 (length table / 3) ++ drop (41 * (length table / 3)) file) in
     let c : countRefusal table or short ≡ none =
     counted (countRefusal table or short) file done n (or-refusing (countRefusal table) short (count-refusing table) (when-all-refusing (ltb (length file) (41 * (length table / 3))) 12)) e in
     let q : writing table file ≡ done = ap (λ (r : Option Answer). unless r file done) c in
-    let a : count (41 * (length table / 3)) ≡ count n = ap (λ (d : Called). d .answer) (sym q) ∙ e in
+    let a : count (41 * (length table / 3)) ≡ count n = ap (λ (d : Outcome). d .answer) (sym q) ∙ e in
     let k : 41 * (length table / 3) ≡ n = cc in
-    (or-left (countRefusal table) short c, (k, ap (λ (d : Called). d .buffer) q ∙ rw k))
+    (or-left (countRefusal table) short c, (k, ap (λ (d : Outcome). d .buffer) q ∙ rw k))
 
 -- what the checks left of the file or the table
 pub some-line : (file : List ℕ) → fileRefusal file ≡ none → length (lines file) ≡ 0 → ⊥

@@ -1,4 +1,4 @@
--- THE ROUND TRIPS, over the definitions that the contracts of `read` and `write` cite.
+-- The round trips, over the definitions that the contracts of `read` and `write` cite.
 use Prim.Native.Nat.{ℕ, _*_, _/_, _≤_, _<_}
 use mathlib.Core.Path.{_≡_, refl, sym, ap, _∙_}
 use mathlib.Core.List.{List, [], _++_}
@@ -8,28 +8,27 @@ use borrow.Author.Tests.{le-ltb, ne-eqb}
 use lib.ListN.{length, take, drop}
 use lib.Seq.{take-at, take-all}
 use Rattle.refusal.specs.Answer.{count}
-use Rattle.column.specs.Checks.{called}
+use Rattle.refusal.specs.Outcome.{outcome}
 use Rattle.column.specs.Line.{lines}
 use Rattle.column.specs.File.{linesRefusal, fileRefusal, numbers, reading, linesFrom, writing}
+use Rattle.column.specs.Laws.{FileAgain, TableAgain}
 use Rattle.column.proofs.Storing.{file-right, numbers-length}
-use Rattle.column.proofs.Writes.{Words, lines-length, write-put}
+use Rattle.column.proofs.Writes.{lines-length, write-put}
 use Rattle.column.proofs.Refusing.{read-counted, write-counted, some-line, even-count}
 use Rattle.column.proofs.FileText.{lines-join, lines-again, lines-few, lines-bytes, texts, texts-lines, texts-length, texts-right, texts-numbers}
 
 -- the calls on n nodes that are right
-write-nodes : (table out text : List ℕ) (n b : ℕ) → length table ≡ 3 * n → 0 < n → n ≤ 512 → linesFrom table 0 n ≡ text → 41 * n ≡ b → b ≤ length out → writing table out ≡ called (count b) (text ++ drop b out)
+pub write-nodes : (table out text : List ℕ) (n b : ℕ) → length table ≡ 3 * n → 0 < n → n ≤ 512 → linesFrom table 0 n ≡ text → 41 * n ≡ b → b ≤ length out → writing table out ≡ outcome (count b) (text ++ drop b out)
 write-nodes table out text n b e h f t c r =
     let d : length table / 3 ≡ n = omega arith in
     sym (write-put table out (λ q. omega arith) (omega arith) (omega arith) (linesFrom table 0 (length table / 3) ++ drop (41 * (length table / 3)) out) (omega arith) refl)
     ∙ rw (d, t, c)
 
-read-nodes : (file table : List ℕ) (n : ℕ) → linesRefusal 0 (lines file) ≡ none → length (lines file) ≡ n → 0 < n → 3 * n ≤ length table → reading file table ≡ called (count n) (numbers (lines file) ++ drop (3 * n) table)
+read-nodes : (file table : List ℕ) (n : ℕ) → linesRefusal 0 (lines file) ≡ none → length (lines file) ≡ n → 0 < n → 3 * n ≤ length table → reading file table ≡ outcome (count n) (numbers (lines file) ++ drop (3 * n) table)
 unfolding reading fileRefusal
 read-nodes file table n r e h l = rw (e, ne-eqb n 0 (omega arith), r, le-ltb (length table) (3 * n) l)
 
--- A file that is read and written again has the same bytes.
-pub file-again : (file table out : List ℕ) (n : ℕ) → reading file table .answer ≡ count n → length file ≤ length out →
-    writing (take (3 * n) (reading file table .buffer)) out ≡ called (count (length file)) (file ++ drop (length file) out)
+pub file-again : FileAgain
 file-again file table out n e h =
     let r = read-counted file table n e in
     let ok : linesRefusal 0 (lines file) ≡ none = file-right file (r .0) in
@@ -44,9 +43,7 @@ file-again file table out n e h =
     (ap (λ (k : ℕ). 41 * k) (sym k) ∙ sym (lines-bytes 0 (lines file) ok) ∙ ap length (lines-join file))
     h)
 
--- A table of words that is written and read again has the same numbers.
-pub table-again : (table file buffer : List ℕ) (b : ℕ) → Words table → writing table file .answer ≡ count b → length table ≤ length buffer →
-    reading (take b (writing table file .buffer)) buffer ≡ called (count (length table / 3)) (table ++ drop (length table) buffer)
+pub table-again : TableAgain
 table-again table file buffer b w e h =
     let n : ℕ = length table / 3 in
     let p = write-counted table file b e in

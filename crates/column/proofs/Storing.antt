@@ -17,7 +17,8 @@ use Rattle.column.specs.declared.ReadAnswer.{ReadAnswer}
 use Rattle.column.specs.declared.ReadAnswer.the-variants.{Nodes, Refused}
 use Rattle.column.specs.Answers.{readAnswer}
 use Rattle.column.specs.Promises.{Checked, refusalIn, firstLine}
-use Rattle.column.specs.Checks.{when, _or_, called}
+use Rattle.column.specs.Checks.{when, _or_}
+use Rattle.refusal.specs.Outcome.{outcome}
 use Rattle.column.specs.Line.{lines, whole, columnRefusal, lineRefusal, entries}
 use Rattle.column.specs.File.{linesRefusal, fileRefusal, numbers, reading}
 use Rattle.column.proofs.Judged.{or-left, or-right, lines-some, lines-none, whole-line, entries-of-line}
@@ -147,7 +148,7 @@ storing-ends file table₀ nodes table node h n l p =
 
 -- the whole call, by what the check of the lines answered
 module _ (file table : List ℕ) (a : ReadAnswer) (p : Checked file a) where
-  pub read-refused : (r : Refusal) → a ≡ Refused r → called (readAnswer a) table ≡ reading file table
+  pub read-refused : (r : Refusal) → a ≡ Refused r → outcome (readAnswer a) table ≡ reading file table
   unfolding reading
   read-refused r e = let f : some (refusalOf r) ≡ fileRefusal file = ap refusalIn (sym e) ∙ p .refusal in rw (e, ← f)
 
@@ -158,10 +159,10 @@ module _ (file table : List ℕ) (a : ReadAnswer) (p : Checked file a) where
     pub lines-counted : n ≡ length (lines file)
     lines-counted = p .nodes n e
 
-    pub read-short : length table < 3 * n → called (refusedAll 12) table ≡ reading file table
+    pub read-short : length table < 3 * n → outcome (refusedAll 12) table ≡ reading file table
     unfolding reading
     read-short h = rw (lines-right, ← lines-counted, lt-ltb (length table) (3 * n) h)
 
-    pub read-stored : (table′ : List ℕ) → 3 * n ≤ length table → table′ ≡ numbers (lines file) ++ drop (3 * n) table → called (count n) table′ ≡ reading file table
+    pub read-stored : (table′ : List ℕ) → 3 * n ≤ length table → table′ ≡ numbers (lines file) ++ drop (3 * n) table → outcome (count n) table′ ≡ reading file table
     unfolding reading
     read-stored table′ h q = rw (lines-right, ← lines-counted, le-ltb (length table) (3 * n) h, q)

@@ -2,7 +2,6 @@
 -- in order: spaces, a minus, digits.
 use Prim.Native.Nat.{ℕ, zero, suc, _+_, _-_, _≤_, _<_}
 use mathlib.Core.Path.{_≡_, refl, sym, ap, subst, _∙_}
-use mathlib.Core.Logic.{_↔_}
 use mathlib.Core.Bool.{Bool, true, false}
 use mathlib.Core.List.{List, [], _∷_, _++_}
 use mathlib.Core.Option.{Option, none, some}
@@ -15,6 +14,7 @@ use lib.ListN.{length, getD, drop, replicate, length-append, length-replicate}
 use Rattle.word.specs.Choice.{pick, _and_}
 use Rattle.word.proofs.Lists.{first-true, second-true}
 use Rattle.column.specs.Number.{space, decimal, numeral, column, same, has, amount, fits, candidate, numberIn}
+use Rattle.column.specs.Laws.{NumberLaw}
 use Rattle.column.proofs.Decimal.{IsDigit, AllDigits, decimal-digits, decimal-amount, decimal-some}
 
 -- equality of texts
@@ -94,8 +94,7 @@ no-number c n = go (numberIn c) refl
     go none e = refl
     go (some z) e = absurd (n z (read-column c z e .0) (read-column c z e .1))
 
--- THE LAW of the number form: a column is read as z exactly if it is the text of z, a 32-bit number.
-pub number-law : (c : List ℕ) (z : ℤ) → (numberIn c ≡ some z) ↔ ((column (length c) z ≡ c) × (fits z ≡ true))
+pub number-law : NumberLaw
 number-law c z = (read-column c z, λ p. subst (λ (t : List ℕ). numberIn t ≡ some z) (p .0) (column-read (length c) z (has-room c z (p .0)) (p .1)))
   where
     has-room : (c : List ℕ) (z : ℤ) → column (length c) z ≡ c → length (numeral z) ≤ length c

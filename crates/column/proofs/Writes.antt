@@ -10,11 +10,13 @@ use native.Mathlib.Omega.{arith}
 use borrow.Author.Tests.{lt-ltb, le-ltb, eq-eqb, ne-eqb}
 use lib.IntN.{pos}
 use lib.ListN.{length, getD, set, take, drop, length-append, length-drop, drop-of-length-le}
-use lib.Seq.{sets, length-sets, getD-drop, length-take-le}
+use lib.Seq.{sets, length-sets, length-take-le}
 use Rattle.refusal.specs.Answer.{count, refusedAt, refusedAll}
 use Rattle.word.specs.Word.{value}
+use Rattle.word.specs.Tick.{Words}
+use Rattle.word.proofs.Each.{word-at, words-take, words-drop}
 use Rattle.word.proofs.Low.{value-small}
-use Rattle.column.specs.Checks.{called}
+use Rattle.refusal.specs.Outcome.{outcome}
 use Rattle.column.specs.Number.{numeral, column}
 use Rattle.column.specs.Line.{lineFeed, columns, nodeLine}
 use Rattle.column.specs.File.{node, lineOf, linesFrom, countRefusal, writing}
@@ -37,18 +39,8 @@ word-room w h = go (decLt w (2 ^ 31))
 pub node-room : (i : ℕ) → i < 512 → length (numeral (value i)) ≤ 4
 node-room i h = rw (numeral-small i (omega arith)) (decimal-length i 4 (omega arith) (omega arith))
 
--- the entries of a table are words
-abbrev pub Words : List ℕ → Type 0
-Words table = (k : ℕ) → getD table k 0 < 2 ^ 32
-
-pub words-take : (n : ℕ) (l : List ℕ) → Words l → Words (take n l)
-words-take zero l w k = omega arith
-words-take (suc n) [] w k = omega arith
-words-take (suc n) (x ∷ l) w zero = w 0
-words-take (suc n) (x ∷ l) w (suc k) = words-take n l (λ i. w (suc i)) k
-
 pub words-node : (table : List ℕ) (i : ℕ) → Words table → Words (node table i)
-words-node table i w = words-take 3 (drop (3 * i) table) (λ k. rw (getD-drop (3 * i) table k 0) (w (3 * i + k)))
+words-node table i w = words-take 3 (drop (3 * i) table) (words-drop (3 * i) table w)
 
 pub node-length : (table : List ℕ) (i : ℕ) → 3 * i + 3 ≤ length table → length (node table i) ≡ 3
 node-length table i h = length-take-le 3 (drop (3 * i) table) (rw (length-drop (3 * i) table) (omega arith))
@@ -56,9 +48,9 @@ node-length table i h = length-take-le 3 (drop (3 * i) table) (rw (length-drop (
 -- numbers in columns of 12, put one after another
 pub columns-length : (ws : List ℕ) → Words ws → length (columns (map value ws)) ≡ 12 * length ws
 columns-length [] w = refl
-columns-length (x ∷ ws) w =
+columns-length (x ∷ ws) (p, w) =
     length-append (column 12 (value x)) (columns (map value ws))
-    ∙ rw (column-length 12 (value x) (word-room x (w 0)), columns-length ws (λ k. w (suc k))) (omega arith)
+    ∙ rw (column-length 12 (value x) (word-room x p), columns-length ws w) (omega arith)
 
 pub record Columns (numbers : List ℕ) (from : ℕ) (file₀ file : List ℕ) (j : ℕ) : Type 0 where
   pub few : j ≤ length numbers
@@ -73,7 +65,7 @@ pub columns-next : (numbers : List ℕ) (from : ℕ) (file₀ file : List ℕ) (
 columns-next numbers from file₀ file j file′ w h e p =
     let c : List ℕ = column 12 (value (getD numbers j 0)) in
     let r : List ℕ = columns (map value (drop (j + 1) numbers)) in
-    let l : length c ≡ 12 = column-length 12 (value (getD numbers j 0)) (word-room (getD numbers j 0) (w j)) in
+    let l : length c ≡ 12 = column-length 12 (value (getD numbers j 0)) (word-room (getD numbers j 0) (word-at numbers j w)) in
     let a : from + 12 * j + 12 ≡ from + 12 * (j + 1) = omega arith in
     let q : columns (map value (drop j numbers)) ≡ c ++ r = ap (λ (ns : List ℕ). columns (map value ns)) (drop-at numbers j h) in
     record {
@@ -160,17 +152,17 @@ writing-ends table nodes file₀ file node w m t h l p =
 
 -- the whole call
 module _ (table file : List ℕ) where
-  pub write-empty : length table ≡ 0 → called (refusedAt 3 0) file ≡ writing table file
+  pub write-empty : length table ≡ 0 → outcome (refusedAt 3 0) file ≡ writing table file
   unfolding writing countRefusal
   write-empty h = rw (eq-eqb (length table) 0 h)
 
   module _ (some-number : length table ≡ 0 → ⊥) where
-    pub write-uneven : (length table % 3 ≡ 0 → ⊥) → called (refusedAt 3 0) file ≡ writing table file
+    pub write-uneven : (length table % 3 ≡ 0 → ⊥) → outcome (refusedAt 3 0) file ≡ writing table file
     unfolding writing countRefusal
     write-uneven h = rw (ne-eqb (length table) 0 some-number, ne-eqb (length table % 3) 0 h)
 
     module _ (even : length table % 3 ≡ 0) where
-      pub write-many : 512 < length table / 3 → called (refusedAt 3 512) file ≡ writing table file
+      pub write-many : 512 < length table / 3 → outcome (refusedAt 3 512) file ≡ writing table file
       unfolding writing countRefusal
       write-many h = rw (ne-eqb (length table) 0 some-number, eq-eqb (length table % 3) 0 even, lt-ltb 512 (length table / 3) h)
 
@@ -179,11 +171,11 @@ module _ (table file : List ℕ) where
         unfolding countRefusal
         count-right = rw (ne-eqb (length table) 0 some-number, eq-eqb (length table % 3) 0 even, le-ltb 512 (length table / 3) few)
 
-        pub write-short : length file < 41 * (length table / 3) → called (refusedAll 12) file ≡ writing table file
+        pub write-short : length file < 41 * (length table / 3) → outcome (refusedAll 12) file ≡ writing table file
         unfolding writing
         write-short h = rw (count-right, lt-ltb (length file) (41 * (length table / 3)) h)
 
         pub write-put : (file′ : List ℕ) → 41 * (length table / 3) ≤ length file → file′ ≡ linesFrom table 0 (length table / 3) ++ drop (41 * (length table / 3)) file →
-            called (count (41 * (length table / 3))) file′ ≡ writing table file
+            outcome (count (41 * (length table / 3))) file′ ≡ writing table file
         unfolding writing
         write-put file′ h e = rw (count-right, le-ltb (length file) (41 * (length table / 3)) h, e)

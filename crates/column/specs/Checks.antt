@@ -1,9 +1,10 @@
--- "The checks by place": each check gives a refusal or none, and the first refusal counts. What a call leaves.
+-- "The checks by place": each check gives a refusal or none, and the first refusal counts.
 use mathlib.Core.Bool.{Bool, true, false}
 use mathlib.Core.List.{List}
 use mathlib.Core.Option.{Option, none, some}
 use Prim.Native.Nat.{ℕ}
 use Rattle.refusal.specs.Answer.{Answer}
+use Rattle.refusal.specs.Outcome.{Outcome, outcome}
 
 -- a check: this refusal, where the test holds
 abbrev pub when : Bool → Answer → Option Answer
@@ -16,15 +17,7 @@ abbrev pub _or_ : Option Answer → Option Answer → Option Answer
 none or r = r
 (some a) or r = some a
 
--- what a call leaves: its answer, and the lent buffer that it fills
-pub record Called : Type 0 where
-  pub answer : Answer
-  pub buffer : List ℕ
-
-abbrev pub called : Answer → List ℕ → Called
-called a b = record { answer = a; buffer = b }
-
 -- what an accepted call leaves, unless there is a refusal, which leaves the buffer as it was
-abbrev pub unless : Option Answer → List ℕ → Called → Called
+abbrev pub unless : Option Answer → List ℕ → Outcome → Outcome
 unless none b accepted = accepted
-unless (some a) b accepted = called a b
+unless (some a) b accepted = outcome a b

@@ -6,8 +6,9 @@ use mathlib.Core.Option.{Option, none}
 use lib.Dec.{eqb, ltb}
 use lib.ListN.{length, take, drop}
 use Rattle.refusal.specs.Answer.{Answer, count, refusedAt, refusedAll}
+use Rattle.refusal.specs.Outcome.{Outcome, outcome}
 use Rattle.word.specs.Word.{value}
-use Rattle.column.specs.Checks.{when, _or_, Called, called, unless}
+use Rattle.column.specs.Checks.{when, _or_, unless}
 use Rattle.column.specs.Line.{lineBytes, mostNodes, nodeLine, lines, entries, lineRefusal}
 
 -- "reading, line by line", from line i on
@@ -25,11 +26,11 @@ numbers [] = []
 numbers (l ∷ ls) = entries l ++ numbers ls
 
 -- "Reader: lines, 12"; the count of nodes
-unfoldable pub reading : List ℕ → List ℕ → Called
+unfoldable pub reading : List ℕ → List ℕ → Outcome
 reading file table =
     let nodes = length (lines file) in
     unless (fileRefusal file or when (ltb (length table) (3 * nodes)) (refusedAll 12)) table
-    (called (count nodes) (numbers (lines file) ++ drop (3 * nodes) table))
+    (outcome (count nodes) (numbers (lines file) ++ drop (3 * nodes) table))
 
 -- node i of a table: "three to a node: kind, first, second"
 abbrev pub node : List ℕ → ℕ → List ℕ
@@ -51,8 +52,8 @@ countRefusal table =
     or when (ltb mostNodes (length table / 3)) (refusedAt 3 mostNodes)
 
 -- "Writer: 3, 12"; the count of bytes
-unfoldable pub writing : List ℕ → List ℕ → Called
+unfoldable pub writing : List ℕ → List ℕ → Outcome
 writing table file =
     let nodes = length table / 3 in
     unless (countRefusal table or when (ltb (length file) (lineBytes * nodes)) (refusedAll 12)) file
-    (called (count (lineBytes * nodes)) (linesFrom table 0 nodes ++ drop (lineBytes * nodes) file))
+    (outcome (count (lineBytes * nodes)) (linesFrom table 0 nodes ++ drop (lineBytes * nodes) file))

@@ -4,3 +4,4 @@ pub mod Line
 pub mod File
 pub mod Answers
 pub mod Promises
+pub mod Laws

@@ -10,7 +10,7 @@ ghost use Rattle.column.specs.Line.{columnOf, whole, lines, entries};
 ghost use Rattle.column.specs.File.{fileRefusal, numbers, reading};
 ghost use Rattle.column.specs.Answers.{readAnswer};
 ghost use Rattle.column.specs.Promises.{Checked, firstLine, found};
-ghost use Rattle.column.specs.Checks.{called};
+ghost use Rattle.refusal.specs.Outcome.{outcome};
 use crate::LINE_BYTES;
 use crate::MOST_LINES;
 use crate::Number;
@@ -132,7 +132,7 @@ fn store(file: &[u8], table: &mut [u32], nodes: usize)
 
 // Reads a column file into the table: 3, 1 and 2 line by line, then 12.
 pub fn read(file: &[u8], table: &mut [u32]) -> ReadAnswer
-    ensures { λ r. ⌜ called (readAnswer r) (now (table .exit)) ≡ reading (now (file .entry)) (now (table .entry)) ⌝ }
+    ensures { λ r. ⌜ outcome (readAnswer r) (now (table .exit)) ≡ reading (now (file .entry)) (now (table .entry)) ⌝ }
 {
     let checked = check_lines(file);
     let ReadAnswer::Nodes(count) = checked else {

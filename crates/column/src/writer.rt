@@ -8,7 +8,7 @@ ghost use lib.ListN.{length, drop};
 ghost use lib.Seq.{sets};
 ghost use Rattle.column.specs.File.{lineOf, linesFrom, writing};
 ghost use Rattle.column.specs.Answers.{writeAnswer};
-ghost use Rattle.column.specs.Checks.{called};
+ghost use Rattle.refusal.specs.Outcome.{outcome};
 use crate::LINE_BYTES;
 use crate::MOST_LINES;
 use crate::MOST_NODES;
@@ -54,7 +54,7 @@ fn put_lines(table: &[u32], nodes: usize, file: &mut [u8])
 
 // Writes a table as a column file: 3, then 12.
 pub fn write(table: &[u32], file: &mut [u8]) -> WriteAnswer
-    ensures { λ r. ⌜ called (writeAnswer r) (now (file .exit)) ≡ writing (now (table .entry)) (now (file .entry)) ⌝ }
+    ensures { λ r. ⌜ outcome (writeAnswer r) (now (file .exit)) ≡ writing (now (table .entry)) (now (file .entry)) ⌝ }
 {
     let numbers = table.len();
     if numbers == 0 {

@@ -30,8 +30,8 @@ use Rattle.engine.proofs.Demand3.{demand-3, runs-go-on, no-13}
 -- what the runs of a table's code have after a load that named `named` cells
 abbrev pub LawfulRuns : List ℕ → ℕ → Type 0
 LawfulRuns table named = (cells : List ℕ) → loaded named cells .answer ≡ count named
-    → (list : List Element) → OthersRefused (runOf (translated table)) 0 (loaded named cells .cells) list
-    → LawfulThroughout (nodes table) (circuit table) (runOf (translated table)) 0 [] (loaded named cells .cells) list
+    → (list : List Element) → OthersRefused (runOf (translated table)) 0 (loaded named cells .buffer) list
+    → LawfulThroughout (nodes table) (circuit table) (runOf (translated table)) 0 [] (loaded named cells .buffer) list
 
 -- 2,048 instructions and 16,384 cells, and a load that named just these
 module _ (table : List ℕ) (n m : ℕ) (k : Checked table (Accepted n m 2048 16384)) (w : Words table) where

@@ -67,7 +67,7 @@ list = own first ∷ between
 
 -- cells that held something
 abbrev block : List ℕ
-block = loaded 1 (7 ∷ 9 ∷ []) .cells
+block = loaded 1 (7 ∷ 9 ∷ []) .buffer
 
 others-refused : OthersRefused program 0 block list
 unfolding OthersRefused loaded walkedTable checked ran codeOk

@@ -28,7 +28,7 @@ abbrev run : Arguments
 run = record { ticks = 3; inputs = 0 ∷ 5 ∷ 1 ∷ 7 ∷ 0 ∷ 9 ∷ []; controls = zeros 16; outputs = zeros 3; lent = 1 }
 
 abbrev block : List ℕ
-block = loaded 1 (3 ∷ []) .cells
+block = loaded 1 (3 ∷ []) .buffer
 
 abbrev cut : ℕ → List Element
 cut j = cutAfter (nodes onDemand) (circuit onDemand) program 0 [] run j

@@ -13,7 +13,8 @@ use Rattle.refusal.specs.Answer.{Answer, count, refusalOf}
 use Rattle.column.specs.declared.ReadAnswer.{ReadAnswer}
 use Rattle.column.specs.declared.ReadAnswer.the-variants.{Nodes, Refused}
 use Rattle.column.specs.Answers.{readAnswer}
-use Rattle.column.specs.Checks.{Called, called, _or_}
+use Rattle.refusal.specs.Outcome.{Outcome, outcome}
+use Rattle.column.specs.Checks.{_or_}
 use Rattle.column.specs.Line.{lines}
 use Rattle.column.specs.File.{fileRefusal, numbers, reading}
 use Rattle.column.proofs.Refusing.{read-counted}
@@ -23,9 +24,9 @@ use Rattle.listing.specs.Print.{refusalText, fileText, Printed}
 use Rattle.listing.specs.Steps.{Put, PrintedTable}
 use Rattle.listing.proofs.Tables.{begins-of}
 
-module _ (file table : List ℕ) (a : ReadAnswer) (table′ : List ℕ) (q : called (readAnswer a) table′ ≡ reading file table) where
+module _ (file table : List ℕ) (a : ReadAnswer) (table′ : List ℕ) (q : outcome (readAnswer a) table′ ≡ reading file table) where
   answered : readAnswer a ≡ reading file table .answer
-  answered = ap (λ (c : Called). c .answer) q
+  answered = ap (λ (c : Outcome). c .answer) q
 
   -- where the table is long enough, only the lines are refused
   lines-refused : 1536 ≤ length table → (r : Refusal) → a ≡ Refused r → fileRefusal file ≡ some (refusalOf r)
@@ -54,7 +55,7 @@ module _ (file table : List ℕ) (a : ReadAnswer) (table′ : List ℕ) (q : cal
     read = read-counted file table k (sym answered ∙ ap readAnswer e)
 
     filled : table′ ≡ numbers (lines file) ++ drop (3 * k) table
-    filled = ap (λ (c : Called). c .buffer) q ∙ read .1 .1
+    filled = ap (λ (c : Outcome). c .buffer) q ∙ read .1 .1
 
     counted : length (numbers (lines file)) ≡ 3 * k
     counted = numbers-length (lines file) ∙ ap (λ (n : ℕ). 3 * n) (read .1 .0)

@@ -5,16 +5,15 @@ use mathlib.Core.List.{List, [], _∷_, _++_, map}
 use native.Mathlib.Omega.{arith}
 use native.Mathlib.Nat.{zero-mul, suc-mul}
 use lib.ListN.{length, set, take, drop, length-append, length-drop}
-use lib.Seq.{sets, length-sets, length-take-le, getD-drop, drop-drop}
+use lib.Seq.{sets, length-sets, length-take-le, drop-drop}
 use Rattle.word.specs.Word.{value}
+use Rattle.word.specs.Tick.{Words}
+use Rattle.word.proofs.Each.{words-take, words-drop}
 use Rattle.column.specs.Line.{lineFeed, columns}
 use Rattle.column.proofs.Stores.{sets-append}
-use Rattle.column.proofs.Writes.{Words, words-take, columns-length}
+use Rattle.column.proofs.Writes.{columns-length}
 use Rattle.listing.specs.Print.{line, rows}
 use Rattle.listing.specs.Steps.{Full, Rows, Put}
-
-pub words-drop : (n : ℕ) (l : List ℕ) → Words l → Words (drop n l)
-words-drop n l w k = rw (getD-drop n l k 0) (w (n + k))
 
 pub line-length : (ws : List ℕ) → Words ws → length (line ws) ≡ 12 * length ws + 1
 unfolding line

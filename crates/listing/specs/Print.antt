@@ -14,7 +14,8 @@ use Rattle.column.specs.File.{fileRefusal, numbers}
 use Rattle.arity.specs.Checked.{LoosePlace}
 use Rattle.flat.specs.Flat.{width}
 use Rattle.flat.specs.Code.{header, instructionCount, outputCount, resultsAt}
-use Rattle.translator.specs.Translate.{Outcome, translatedTable}
+use Rattle.refusal.specs.Outcome.{Outcome}
+use Rattle.translator.specs.Translate.{translatedTable}
 
 -- numbers on a line, "each number in 12 columns"
 unfoldable pub line : List ℕ → List ℕ
@@ -45,7 +46,7 @@ abbrev pub mostNumbers : ℕ
 mostNumbers = 10276
 
 abbrev pub outcomeText : Outcome → List ℕ
-outcomeText o = answerText (o .answer) (o .code)
+outcomeText o = answerText (o .answer) (o .buffer)
 
 -- the print of a table; p is the place with refusal 9
 unfoldable pub tableText : ℕ → List ℕ → List ℕ

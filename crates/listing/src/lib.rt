@@ -79,7 +79,6 @@ fn print_table(table: &[u32], text: &mut [u8]) -> usize
 
 // The print of a column file; gives how many bytes it has.
 pub fn print(file: &[u8], text: &mut [u8; 125393]) -> usize
-    requires { ⌜ length (now text) ≡ 125393 ⌝ }
     ensures { λ r. ⌜ Printed (now (file .entry)) (now (text .entry)) r (now (text .exit)) ⌝ }
 {
     let mut table = [0u32; 1536];

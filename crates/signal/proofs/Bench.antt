@@ -5,7 +5,7 @@ use mathlib.Core.List.List·Memᴰ.{List·Memᴰ·head, List·Memᴰ·tail}
 use Rattle.word.specs.Word.{value, low, clamp}
 use Rattle.word.specs.Operation.{add, multiply, operate, demand}
 use Rattle.word.specs.Tick.{headOr, tailOf}
-use Rattle.signal.specs.Samples.{Sample, meaning, benchSamples}
+use Rattle.signal.specs.Samples.{Sample, meaning, benchSamples, SamplesRight}
 
 samples-computed : map meaning benchSamples ≡ map (λ (s : Sample). s .outputs) benchSamples
 unfolding benchSamples meaning operate add multiply clamp value low demand
@@ -15,5 +15,5 @@ same-at : {A B : Type 0} (f g : A → B) (l : List A) (a : A) → map f l ≡ ma
 same-at f g (b ∷ l) a e (List·Memᴰ·head h) = rw h (ap (headOr (f b)) e)
 same-at f g (b ∷ l) a e (List·Memᴰ·tail m) = same-at f g l a (ap tailOf e) m
 
-pub samples-right : (s : Sample) → List·Memᴰ s benchSamples → meaning s ≡ s .outputs
+pub samples-right : SamplesRight
 samples-right s m = same-at meaning (λ (r : Sample). r .outputs) benchSamples s samples-computed m

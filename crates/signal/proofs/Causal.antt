@@ -14,10 +14,7 @@ use Rattle.arity.specs.Tree.Primitive.{number, control, operation, delay, cable
 use Rattle.arity.specs.Tree.Composition.{sequence, parallel, split, merge, recursion}
 use Rattle.signal.specs.Signal.{History, wire, beside, fill, sums, late, demanded, demands, hold, inputsOf, Processor, primitive, signal, loop}
 use Rattle.signal.specs.History.{loopRight, loopLeft}
-
-pub record Causal (p : Processor) : Type 0 where
-  pub empty : p [] ≡ []
-  pub next : (f : Tick) (h : History) → p (f ∷ h) ≡ headOr [] (p (f ∷ h)) ∷ p h
+use Rattle.signal.specs.Laws.{Causal, AllCausal, AllWide}
 
 module _ (p : Processor) (c : Causal p) (f : Tick) (h : History) where
   pub wire-next : wire (f ∷ h) (p (f ∷ h)) ≡ tick (headOr [] (p (f ∷ h))) (f .controls) ∷ wire h (p h)
@@ -99,7 +96,7 @@ module _ (b : Processor) (c : Causal b) (m : ℕ) where
   pub hold-next : (f : Tick) (h : History) → hold m (f ∷ h) (b (demands (f ∷ h))) ≡ headOr (zeros m) (b (demands (f ∷ h))) ∷ hold m h (b (demands h))
   hold-next f h = ap (λ ys. headOr (zeros m) (b (demands (f ∷ h))) ∷ ys) (hold-by f h (demanded f) refl)
 
-pub causal : (t : Tree) → Causal (signal t)
+pub causal : AllCausal
 unfolding signal
 causal (leaf i p) = record { empty = refl; next = λ f h. refl }
 causal (join i sequence l r) = record { empty = causal r .empty; next = λ f h. through (signal r) (causal r) _ _ _ (wire-next (signal l) (causal l) f h) }
@@ -129,7 +126,7 @@ held-width : (p : Processor) (n : ℕ) → Causal p → ((f : Tick) (h : History
 held-width p n c w [] = rw (c .empty) (length-replicate n 0)
 held-width p n c w (f ∷ h) = rw (c .next f h) (w f h)
 
-pub width : (t : Tree) (f : Tick) (h : History) → length (headOr [] (signal t (f ∷ h))) ≡ outs t
+pub width : AllWide
 unfolding signal
 width (leaf i p) f h = primitive-width p f h
 width (join i sequence l r) f h = width r _ _

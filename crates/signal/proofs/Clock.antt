@@ -14,29 +14,20 @@ use Rattle.word.proofs.Clocks.{demand-product}
 use Rattle.arity.specs.Tree.{Tree, outs}
 use Rattle.arity.specs.Tree.Tree.{ondemand}
 use Rattle.signal.specs.Signal.{History, Processor, signal, demands}
-use Rattle.signal.specs.Clock.{Clock, at, star, demandsBefore, down, up, _⊗_, upTo, ticks, clocked}
-use Rattle.signal.proofs.Causal.{Causal, causal, hold-next}
-use Rattle.signal.proofs.Star.{star-at, demanded-at, plus-is, plus-at}
+use Rattle.signal.specs.Clock.{Clock, at, demandsBefore, down, up, _⊗_, upTo, clocked, inside, outputs, BodySees, OndemandGives, ClocksCombine}
+use Rattle.signal.specs.Laws.{Causal}
+use Rattle.signal.proofs.Causal.{causal, hold-next}
+use Rattle.signal.proofs.Star.{star-at, plus-is, plus-at}
 
--- the inputs that follow a clock, seen from inside: x↓h and u↓h, where h is known for n ticks
-module _ (n : ℕ) (h : Clock) (x u : ℕ → Beam) where
-  abbrev pub inside : ℕ → History
-  inside k = ticks k (down n h x) (down n h u)
-
-  -- "what a body sees is x↓h": its own history is that of the inputs and controls as they are at the demands
-  pub body-sees : (t : ℕ) → t ≤ n → demands (clocked t h x u) ≡ inside (demandsBefore h t)
-  unfolding upTo demandsBefore
-  body-sees zero l = refl
-  body-sees (suc t) l = go (demand (h t)) refl (body-sees t (omega arith))
-    where
-      go : (d : Bool) → demand (h t) ≡ d → demands (clocked t h x u) ≡ inside (demandsBefore h t)
-          → pick (demand (h t)) (tick (x t) (u t) ∷ demands (clocked t h x u)) (demands (clocked t h x u)) ≡ inside (demandsBefore h t + bit (demand (h t)))
-      go true e ih = rw (e, add-one) (ap₂ (λ (s : ℕ) (p : History). tick (x s) (u s) ∷ p) (sym (star-at n h t l e)) ih)
-      go false e ih = rw (e, add-zero) ih
-
--- the outputs of a processor at its own time t
-abbrev pub outputs : Processor → (ℕ → History) → ℕ → Beam
-outputs p past t = headOr [] (p (past (suc t)))
+pub body-sees : BodySees
+unfolding upTo demandsBefore
+body-sees n h x u zero l = refl
+body-sees n h x u (suc t) l = go (demand (h t)) refl (body-sees n h x u t (omega arith))
+  where
+    go : (d : Bool) → demand (h t) ≡ d → demands (clocked t h x u) ≡ inside n h x u (demandsBefore h t)
+        → pick (demand (h t)) (tick (x t) (u t) ∷ demands (clocked t h x u)) (demands (clocked t h x u)) ≡ inside n h x u (demandsBefore h t + bit (demand (h t)))
+    go true e ih = rw (e, add-one) (ap₂ (λ (s : ℕ) (p : History). tick (x s) (u s) ∷ p) (sym (star-at n h t l e)) ih)
+    go false e ih = rw (e, add-zero) ih
 
 -- an ondemand's outputs at its latest tick, and before it
 gives-next : (i : ℕ) (b : Tree) (f : Tick) (past : History)
@@ -50,29 +41,16 @@ unfolding upTo
 latest-of p c m f zero = rw (c .empty)
 latest-of p c m f (suc k) = rw (c .next (f k) (upTo k f))
 
-module _ (n : ℕ) (h : Clock) (x u : ℕ → Beam) (i : ℕ) (b : Tree) where
-  -- y: the outputs of the body over x↓h
-  abbrev pub body-outputs : ℕ → Beam
-  body-outputs = outputs (signal b) (inside n h x u)
-
-  -- "what ondemand gives is y↑h"
-  pub ondemand-gives : (t : ℕ) → t ≤ n → signal (ondemand i b) (clocked t h x u) ≡ upTo t (up (zeros (outs b)) h body-outputs)
-  unfolding signal upTo
-  ondemand-gives zero l = refl
-  ondemand-gives (suc t) l =
-      gives-next i b (tick (h t ∷ x t) (u t)) (clocked t h x u)
-      ∙ ap₂ {C = List Beam} _∷_
-      (ap (λ (p : History). headOr (zeros (outs b)) (signal b p)) (body-sees n h x u (suc t) l)
-      ∙ latest-of (signal b) (causal b) (outs b) (λ j. tick (down n h x j) (down n h u j)) (demandsBefore h (suc t))
-      ∙ ap (at (zeros (outs b)) body-outputs) (sym (plus-is h t)))
-      (ondemand-gives t (omega arith))
-
--- "↑h : ↓h is the identity function", at the times of the body
-pub up-down : {A : Type 0} (n : ℕ) (h : Clock) (nought : A) (y : ℕ → A) (t : ℕ) → t < demandsBefore h n → down n h (up nought h y) t ≡ y t
-up-down n h nought y t l =
-    let (s, a, e, c) = demanded-at n h n t (omega arith) l in
-    let q : star n h t ≡ s = ap (star n h) (sym c) ∙ star-at n h s a e in
-    rw (q, plus-at h s e, c)
+pub ondemand-gives : OndemandGives
+unfolding signal upTo
+ondemand-gives n h x u i b zero l = refl
+ondemand-gives n h x u i b (suc t) l =
+    gives-next i b (tick (h t ∷ x t) (u t)) (clocked t h x u)
+    ∙ ap₂ {C = List Beam} _∷_
+    (ap (λ (p : History). headOr (zeros (outs b)) (signal b p)) (body-sees n h x u (suc t) l)
+    ∙ latest-of (signal b) (causal b) (outs b) (λ j. tick (down n h x j) (down n h u j)) (demandsBefore h (suc t))
+    ∙ ap (at (zeros (outs b)) (outputs (signal b) (inside n h x u))) (sym (plus-is h t)))
+    (ondemand-gives n h x u i b t (omega arith))
 
 -- two clocks: the outer h₁, and the inner k as it is outside; inside h₁ that is k↓h₁
 module _ (n : ℕ) (h₁ k : Clock) (x u : ℕ → Beam) where
@@ -82,7 +60,7 @@ module _ (n : ℕ) (h₁ k : Clock) (x u : ℕ → Beam) where
   abbrev combined : Clock
   combined = down n h₁ k ⊗ h₁
 
-  -- "for a request to reach P it is necessary to have h₁(t) and h₀(h₁+(t)) at 1"
+  -- "for a request to reach P it is necessary to have" both clocks at 1: outside h₁, the inner one is k at the same tick
   reaches : (t : ℕ) → t < n → demand (combined t) ≡ demand (h₁ t) and demand (k t)
   reaches t l = demand-product (h₁ t) (up 0 h₁ (down n h₁ k) t) ∙ go (demand (h₁ t)) refl
     where
@@ -102,19 +80,21 @@ module _ (n : ℕ) (h₁ k : Clock) (x u : ℕ → Beam) where
       go true false q ih = rw q ih
       go false e q ih = ih
 
-  -- "(P↓h₀)↓h₁ = P↓(h₀⊗h₁)", h₀ being the inner clock as it is inside h₁
   module _ (i j : ℕ) (b : Tree) where
     held-once : (d : History) → headOr (zeros (outs b)) (signal (ondemand j b) d) ≡ headOr (zeros (outs b)) (signal b (demands d))
     unfolding signal
     held-once [] = rw (causal b .empty)
     held-once (f ∷ d) = refl
 
-    pub clocks-combine : (t : ℕ) → t ≤ n → signal (ondemand i (ondemand j b)) (nested t) ≡ signal (ondemand i b) (clocked t combined x u)
+    combines : (t : ℕ) → t ≤ n → signal (ondemand i (ondemand j b)) (nested t) ≡ signal (ondemand i b) (clocked t combined x u)
     unfolding upTo outs
-    clocks-combine zero l = unfold signal in refl
-    clocks-combine (suc t) l =
+    combines zero l = unfold signal in refl
+    combines (suc t) l =
         gives-next i (ondemand j b) (tick (h₁ t ∷ k t ∷ x t) (u t)) (nested t)
         ∙ ap₂ {C = List Beam} _∷_
         (held-once (demands (nested (suc t))) ∙ ap (λ (d : History). headOr (zeros (outs b)) (signal b d)) (demands-twice (suc t) l))
-        (clocks-combine t (omega arith))
+        (combines t (omega arith))
         ∙ sym (gives-next i b (tick (combined t ∷ x t) (u t)) (clocked t combined x u))
+
+pub clocks-combine : ClocksCombine
+clocks-combine = combines

@@ -6,3 +6,4 @@ pub mod Star
 pub mod Clock
 pub mod ClockExamples
 pub mod Bench
+mod Borders

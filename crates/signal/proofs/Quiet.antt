@@ -15,6 +15,7 @@ use Rattle.arity.proofs.Paths.{body-not-root, subtree-distinct}
 use Rattle.signal.specs.Signal.{History, signal, demanded, demands}
 use Rattle.signal.specs.History.{own, NoDemand}
 use Rattle.signal.specs.Contents.{contents}
+use Rattle.signal.specs.Laws.{BodyRests, AllBodiesRest}
 use Rattle.signal.proofs.Causal.{causal}
 use Rattle.signal.proofs.Own.{Grows, own-grows, own-through}
 
@@ -47,20 +48,14 @@ module _ (t b : Tree) (d : Distinct t) (i : ℕ) (m : Numbered t i) (s : subtree
   none-yet [] e = rw (causal b .empty)
   none-yet (f ∷ h) e = absurd (omega arith)
 
-  -- what the tick f leaves as it was, where it brings no demand
-  pub record Quiet (f : Tick) (h : History) : Type 0 where
-    -- the cells of each node of the body
-    pub body : (j : ℕ) → Numbered b j → contents (subtree t j) (own t (f ∷ h) j) ≡ contents (subtree t j) (own t h j)
-    -- the outputs held in the ondemand's cells
-    pub held : contents (subtree t i) (own t (f ∷ h) i) ≡ contents (subtree t i) (own t h i)
-    -- 0 where there was no demand yet
-    pub before : length (demands (own t h i)) ≡ 0 → contents (subtree t i) (own t h i) ≡ zeros (outs b)
-
-  pub quiet : (f : Tick) (h : History) → NoDemand t i f h → Quiet f h
-  quiet f h q =
+  rests : (f : Tick) (h : History) → NoDemand t i f h → BodyRests t b i f h
+  rests f h q =
       let e : demands (own t (f ∷ h) i) ≡ demands (own t h i) = demands-stay (own t h i) (own t (f ∷ h) i) (own-grows t f h i) q in
       record {
         body = λ j n. ap (contents (subtree t j)) (body-own (f ∷ h) j n ∙ ap (λ x. own b x j) e ∙ sym (body-own h j n));
         held = holds (own t (f ∷ h) i) ∙ ap latestDemand e ∙ sym (holds (own t h i));
         before = λ l. holds (own t h i) ∙ none-yet (demands (own t h i)) l;
       }
+
+pub quiet : AllBodiesRest
+quiet = rests

@@ -1,4 +1,4 @@
--- h* and h+ of source document 002: h*(h+(t)) = t where there is a demand, and h+(h*(t)) = t.
+-- h* and h+ of source document 002: h*(h+(t)) = t where there is a demand.
 use Prim.Native.Nat.{ℕ, zero, suc, _+_, _≤_, _<_}
 use mathlib.Core.Path.{_≡_, refl, _∙_}
 use mathlib.Core.Bool.{Bool, true, false}
@@ -35,11 +35,11 @@ not-and true b e = e
 not-and false b e = refl
 
 -- no demand from one time up to another
-abbrev Quiet : Clock → ℕ → ℕ → Type 0
-Quiet h from to = (r : ℕ) → from ≤ r → r < to → demand (h r) ≡ false
+abbrev Idle : Clock → ℕ → ℕ → Type 0
+Idle h from to = (r : ℕ) → from ≤ r → r < to → demand (h r) ≡ false
 
-quiet-more : (h : Clock) (from to : ℕ) → Quiet h from to → demand (h to) ≡ false → Quiet h from (suc to)
-quiet-more h from to f e r a b = go (decLt r to)
+idle-more : (h : Clock) (from to : ℕ) → Idle h from to → demand (h to) ≡ false → Idle h from (suc to)
+idle-more h from to f e r a b = go (decLt r to)
   where
     go : Dec (r < to) → demand (h r) ≡ false
     go (yes l) = f r a l
@@ -49,8 +49,8 @@ module _ (n : ℕ) (h : Clock) where
   -- the latest demand before t, demand number j at the time s, if there is one
   Latest : ℕ → Type 0
   Latest t =
-      ((demandsBefore h t ≡ 0) × Quiet h 0 t)
-      ⊎ ((j s : ℕ) × (demandsBefore h t ≡ suc j) × (s < t) × (star n h j ≡ s) × Quiet h (suc s) t)
+      ((demandsBefore h t ≡ 0) × Idle h 0 t)
+      ⊎ ((j s : ℕ) × (demandsBefore h t ≡ suc j) × (s < t) × (star n h j ≡ s) × Idle h (suc s) t)
 
   found : (t : ℕ) → t < n → demand (h t) ≡ true → Latest t → star n h (demandsBefore h t) ≡ t
   unfolding star Latest
@@ -71,26 +71,12 @@ module _ (n : ℕ) (h : Clock) where
     where
       go : (d : Bool) → demand (h t) ≡ d → Latest t → Latest (suc t)
       go true e k = inr (demandsBefore h t, t, rw e (add-one (demandsBefore h t)), omega arith, found t (omega arith) e k, λ r a b. absurd (omega arith))
-      go false e (inl (z, f)) = inl (rw (e, add-zero) z, quiet-more h 0 t f e)
-      go false e (inr (j, s, z, b, q, f)) = inr (j, s, rw (e, add-zero) z, omega arith, q, quiet-more h (suc s) t f e)
+      go false e (inl (z, f)) = inl (rw (e, add-zero) z, idle-more h 0 t f e)
+      go false e (inr (j, s, z, b, q, f)) = inr (j, s, rw (e, add-zero) z, omega arith, q, idle-more h (suc s) t f e)
 
   -- h*(h+(t)) = t at a demand, before which there are h+(t) others
   pub star-at : (t : ℕ) → t < n → demand (h t) ≡ true → star n h (demandsBefore h t) ≡ t
   star-at t l e = found t l e (latest t (omega arith))
-
-  -- every demand number below the count is that of a demand
-  pub demanded-at : (t j : ℕ) → t ≤ n → j < demandsBefore h t → (s : ℕ) × (s < t) × (demand (h s) ≡ true) × (demandsBefore h s ≡ j)
-  unfolding demandsBefore
-  demanded-at zero j l k = absurd (omega arith)
-  demanded-at (suc t) j l k = go (demand (h t)) refl (decLt j (demandsBefore h t)) (demanded-at t j (omega arith))
-    where
-      Found : ℕ → Type 0
-      Found m = (s : ℕ) × (s < m) × (demand (h s) ≡ true) × (demandsBefore h s ≡ j)
-
-      go : (d : Bool) → demand (h t) ≡ d → Dec (j < demandsBefore h t) → (j < demandsBefore h t → Found t) → Found (suc t)
-      go d e (yes m) ih = let (s, a, b, c) = ih m in (s, omega arith, b, c)
-      go true e (no m) ih = let k′ : j < demandsBefore h t + 1 = rw e at k in (t, omega arith, e, omega arith)
-      go false e (no m) ih = let k′ : j < demandsBefore h t + 0 = rw e at k in absurd (omega arith)
 
 -- h+ in natural numbers: one less than the demands up to t
 pub plus-is : (h : Clock) (t : ℕ) → plus h t ≡ predℤ (pos (demandsBefore h (suc t)))

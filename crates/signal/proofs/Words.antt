@@ -7,7 +7,7 @@ use Rattle.word.specs.Choice.{pick}
 use Rattle.word.specs.Operation.{add}
 use Rattle.word.specs.Word.{clamp}
 use Rattle.word.specs.Tick.{Beam, Tick, tick, headOr, tailOf, zeros, Each, Words}
-use Rattle.word.proofs.Each.{each-append, each-take, each-drop, each-head, each-tail, each-map, word-at, words-zeros}
+use Rattle.word.proofs.Each.{each-append, each-drop, each-head, each-tail, each-map, word-at, words-zeros, words-append, words-take, words-drop}
 use Rattle.word.proofs.Low.{low-word}
 use Rattle.word.proofs.Forms.{operate-word}
 use Rattle.arity.specs.Tree.{Tree, Primitive, ins, outs}
@@ -16,26 +16,7 @@ use Rattle.arity.specs.Tree.Primitive.{number, control, operation, delay, cable
 use Rattle.arity.specs.Tree.Composition.{sequence, parallel, split, merge, recursion}
 use Rattle.arity.specs.WellFormed.{Known, WellFormed}
 use Rattle.signal.specs.Signal.{History, Processor, inputsOf, wire, rewire, beside, ago, primitive, primitives, copies, fill, sumFrom, sumsFrom, sums, late, loop, demanded, demands, hold, signal}
-
--- a tick of words, and a processor that makes words of words
-pub record WordTick (f : Tick) : Type 0 where
-  pub inputs : Words (f .inputs)
-  pub controls : Words (f .controls)
-
-abbrev pub WordHistory : History → Type 0
-WordHistory h = Each WordTick h
-
-abbrev pub Keeps : Processor → Type 0
-Keeps p = (h : History) → WordHistory h → Each Words (p h)
-
-words-append : (xs ys : Beam) → Words xs → Words ys → Words (xs ++ ys)
-words-append = each-append (λ x. x < 2 ^ 32)
-
-words-take : (n : ℕ) (xs : Beam) → Words xs → Words (take n xs)
-words-take = each-take (λ x. x < 2 ^ 32)
-
-words-drop : (n : ℕ) (xs : Beam) → Words xs → Words (drop n xs)
-words-drop = each-drop (λ x. x < 2 ^ 32)
+use Rattle.signal.specs.Laws.{WordTick, WordHistory, KeepsWords, AllKeepWords}
 
 head-words : (ys : List Beam) → Each Words ys → Words (headOr [] ys)
 head-words ys w = each-head Words [] ys tt w
@@ -101,16 +82,16 @@ primitive-words (delay d) k f past w = (ago-word (f ∷ past) (clamp (getD (f .i
 primitive-words cable k f past w = (word-at (f .inputs) 0 (w .0 .inputs), tt)
 primitive-words cut k f past w = tt
 
-primitives-words : (p : Primitive) → Known p → Keeps (primitives p)
+primitives-words : (p : Primitive) → Known p → KeepsWords (primitives p)
 unfolding primitives
 primitives-words p k [] w = tt
 primitives-words p k (f ∷ past) w = (primitive-words p k f past w, primitives-words p k past (w .1))
 
 -- a processor behind given beams
-wired : (p : Processor) → Keeps p → (h : History) → WordHistory h → (ys : List Beam) → Each Words ys → Each Words (p (wire h ys))
+wired : (p : Processor) → KeepsWords p → (h : History) → WordHistory h → (ys : List Beam) → Each Words ys → Each Words (p (wire h ys))
 wired p k h w ys v = k (wire h ys) (wire-words h ys w v)
 
-loop-words : (left right : Processor) (q : ℕ) → Keeps left → Keeps right → Keeps (loop left right q)
+loop-words : (left right : Processor) (q : ℕ) → KeepsWords left → KeepsWords right → KeepsWords (loop left right q)
 unfolding loop
 loop-words left right q kl kr [] w = tt
 loop-words left right q kl kr (f ∷ past) w =
@@ -122,7 +103,7 @@ loop-words left right q kl kr (f ∷ past) w =
     (inputs-words (f ∷ past) w))
 
 -- every sample of a circuit is a word
-pub words : (t : Tree) → WellFormed t → Keeps (signal t)
+pub words : AllKeepWords
 unfolding signal WellFormed
 words (leaf i p) v h w = primitives-words p v h w
 words (join i sequence l r) v h w = wired (signal r) (words r (v .1)) h w (signal l h) (words l (v .0) h w)

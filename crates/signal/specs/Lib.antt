@@ -3,3 +3,4 @@ pub mod History
 pub mod Contents
 pub mod Clock
 pub mod Samples
+pub mod Laws

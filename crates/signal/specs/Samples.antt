@@ -1,6 +1,7 @@
 -- The bench samples that are marked P: one table of them, and what the meaning gives for each.
 use Prim.Native.Nat.{ℕ, _-_, _^_}
-use mathlib.Core.List.{List, [], _∷_, map, reverse}
+use mathlib.Core.Path.{_≡_}
+use mathlib.Core.List.{List, [], _∷_, map, reverse, List·Memᴰ}
 use lib.ListN.{replicate}
 use Rattle.word.specs.Tick.{Beam, tick, zeros, headOr, tailOf}
 use Rattle.arity.specs.Table.{circuit, tree}
@@ -82,3 +83,7 @@ benchSamples =
     (two (2 ∷ 2 ∷ 2 ∷ []) (10 ∷ 11 ∷ 12 ∷ []))
     (one (0 ∷ 0 ∷ 0 ∷ []))
     ∷ []
+
+-- "The P samples are proved from the meaning through one shared table and theorem."
+abbrev pub SamplesRight : Type 0
+SamplesRight = (s : Sample) → List·Memᴰ s benchSamples → meaning s ≡ s .outputs

@@ -22,7 +22,8 @@ use Rattle.arity.proofs.Promise.{accepted-as, promise}
 use Rattle.flat.specs.Check.{codeOk}
 use Rattle.translator.specs.declared.TranslateAnswer.{TranslateAnswer}
 use Rattle.translator.specs.Translated.{translated}
-use Rattle.translator.specs.Translate.{Outcome, outcome, answerOf, numbersOf, translates, translatedBy, translatedTable, Translates}
+use Rattle.refusal.specs.Outcome.{Outcome, outcome}
+use Rattle.translator.specs.Translate.{answerOf, numbersOf, translates, translatedBy, translatedTable, Translates}
 use Rattle.translator.proofs.Accepted.{code-count, code-passes}
 
 -- what an accepted table leaves in the code buffer
@@ -53,7 +54,7 @@ translates-counted table code n code′ = go _ _ _ refl refl refl
           within = leb-true (numbersOf table) (length code) z;
           short = leb-true (need (circuit table)) 2048 x;
           few = leb-true (cellsBefore (circuit table) (nodes table)) 16384 y;
-          is = ap (λ (o : Outcome). o .code) e;
+          is = ap (λ (o : Outcome). o .buffer) e;
         }
     go true true false x y z e = absurd (never n 12 code code′ e)
     go true false w x y z e = absurd (never n 11 code code′ e)

@@ -28,7 +28,8 @@ use Rattle.translator.specs.Emit.{Emitted, emit, upFrom}
 use Rattle.translator.specs.Translated.{translation, translated}
 use Rattle.translator.specs.Writing.{Room}
 use Rattle.translator.specs.Parts.{emission, Emits, Translatable}
-use Rattle.translator.specs.Translate.{answerOf, Outcome, outcome, numbersOf, translates, translatedBy, translatedTable, Translates, Counted, Headed}
+use Rattle.refusal.specs.Outcome.{Outcome, outcome}
+use Rattle.translator.specs.Translate.{answerOf, numbersOf, translates, translatedBy, translatedTable, Translates, Counted, Headed}
 use Rattle.translator.specs.declared.TranslateAnswer.{TranslateAnswer}
 use Rattle.translator.specs.declared.TranslateAnswer.the-variants as Answers
 use Rattle.translator.specs.declared.place.Progress.{Progress}

@@ -7,6 +7,7 @@ use lib.ListN.{length, drop}
 use Rattle.word.specs.Choice.{pick}
 use Rattle.refusal.specs.Answer.{Answer, count, refusalOf, refusedAll}
 use Rattle.refusal.specs.Answer.Answer.{counts, refused}
+use Rattle.refusal.specs.Outcome.{Outcome, outcome}
 use Rattle.arity.specs.Tree.{ins, outs, need}
 use Rattle.arity.specs.Table.{nodes, circuit}
 use Rattle.arity.specs.Nodes.{cellsBefore}
@@ -23,14 +24,6 @@ use Rattle.translator.specs.declared.TranslateAnswer.the-variants.{Numbe
 abbrev pub answerOf : TranslateAnswer → Answer
 answerOf (Numbers n) = count n
 answerOf (Refused r) = refusalOf r
-
--- an answer with the code buffer after the call
-pub record Outcome : Type 0 where
-  pub answer : Answer
-  pub code : List ℕ
-
-abbrev pub outcome : Answer → List ℕ → Outcome
-outcome a code = record { answer = a; code = code }
 
 -- "4+5c+m" numbers, c being the instructions needed
 abbrev pub numbersOf : List ℕ → ℕ

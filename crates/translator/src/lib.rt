@@ -22,7 +22,8 @@ ghost use lib.ListN.{length, drop};
 ghost use Rattle.cells.specs.Cells.{store};
 ghost use Rattle.flat.specs.Code.{header};
 ghost use Rattle.translator.specs.Translated.{translated};
-ghost use Rattle.translator.specs.Translate.{answerOf, outcome, translates, Translates, numbersOf, Headed, Counted};
+ghost use Rattle.refusal.specs.Outcome.{outcome};
+ghost use Rattle.translator.specs.Translate.{answerOf, translates, Translates, numbersOf, Headed, Counted};
 
 // The count of numbers of the code, or the refusal.
 pub enum TranslateAnswer {

@@ -16,8 +16,8 @@ use Rattle.walker.specs.Walks.{walkOf}
 use Rattle.walker.proofs.WalkList.{walks-lawful, walks-go-on}
 
 module _ (table : List ℕ) (n m i : ℕ) (k : Checked table (Accepted n m i 16384)) (words : Words table) (p : ℕ) where
-  largest-walks : (cells : List ℕ) → loaded 16384 cells .answer ≡ count 16384 → (list : List Element) → OthersRefused (walkOf p table) 0 (loaded 16384 cells .cells) list
-      → LawfulThroughout (nodes table) (circuit table) (walkOf p table) 0 [] (loaded 16384 cells .cells) list
+  largest-walks : (cells : List ℕ) → loaded 16384 cells .answer ≡ count 16384 → (list : List Element) → OthersRefused (walkOf p table) 0 (loaded 16384 cells .buffer) list
+      → LawfulThroughout (nodes table) (circuit table) (walkOf p table) 0 [] (loaded 16384 cells .buffer) list
   largest-walks cells e = walks-lawful table n m i 16384 k words (omega arith) p 16384 cells e (omega arith)
 
   largest-goes-on : (at : ℕ) (past : History) (block : List ℕ) → HoldsPast (nodes table) (circuit table) at past block → (list : List Element)

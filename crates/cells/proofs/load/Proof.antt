@@ -7,20 +7,21 @@ use borrow.Author.Needs.{needs}
 use borrow.Author.Tests.{le-leb, lt-leb}
 use lib.ListN.{length, drop}
 use Rattle.word.specs.Tick.{zeros}
-use Rattle.cells.specs.Load.{loaded, loadedAs}
+use Rattle.refusal.specs.Outcome.{outcome}
+use Rattle.cells.specs.Load.{loaded}
 use Rattle.refusal.specs.Answer.{count, refusedAll}
 use Rattle.cells.proofs.load.Statement.{statement}
 use Rattle.cells.proofs.load.Tie as tie
 
-too-many : (n : ℕ) (cs : List ℕ) → 16384 < n → loadedAs (refusedAll 11) cs ≡ loaded n cs
+too-many : (n : ℕ) (cs : List ℕ) → 16384 < n → outcome (refusedAll 11) cs ≡ loaded n cs
 unfolding loaded
 too-many n cs h = rw (lt-leb n 16384 h)
 
-too-short : (n : ℕ) (cs : List ℕ) → n ≤ 16384 → length cs < n → loadedAs (refusedAll 12) cs ≡ loaded n cs
+too-short : (n : ℕ) (cs : List ℕ) → n ≤ 16384 → length cs < n → outcome (refusedAll 12) cs ≡ loaded n cs
 unfolding loaded
 too-short n cs g h = rw (le-leb n 16384 g, lt-leb n (length cs) h)
 
-cleared : (n : ℕ) (cs cs′ : List ℕ) → n ≤ 16384 → n ≤ length cs → cs′ ≡ zeros n ++ drop n cs → loadedAs (count n) cs′ ≡ loaded n cs
+cleared : (n : ℕ) (cs cs′ : List ℕ) → n ≤ 16384 → n ≤ length cs → cs′ ≡ zeros n ++ drop n cs → outcome (count n) cs′ ≡ loaded n cs
 unfolding loaded
 cleared n cs cs′ g h e = rw (le-leb n 16384 g, le-leb n (length cs) h, e)
 

@@ -3,6 +3,7 @@ use mathlib.Core.Path.{_≡_}
 use Prim.Native.Nat.{_+_, _-_}
 use native.Mathlib.Omega.{arith}
 use borrow.Author.Needs.{needs}
+use Rattle.word.proofs.Each.{words-of}
 use Rattle.listing.proofs.Laying.{Laying, laying-starts, laying-room, laying-next, laying-ends}
 use Rattle.listing.proofs.put_lines.Statement.{statement}
 use Rattle.listing.proofs.put_lines.Tie as tie
@@ -18,28 +19,28 @@ loop-holds c = laying-starts _ _ _ _ _ (c .before .before .pre)
 
 add-end : tie.Need-add-end Inv-loop μ-loop
 add-end c =
-    omega (arith, laying-room _ (c .before .before .before .before .args .width) (c .before .before .before .before .args .count) _ (c .before .before .before .before .args .from) _ (λ k. c .before .before .before .shared-slice-known .given k .fits) (c .before .loop .left) (c .before .loop .first) (c .before .loop .at) (c .loop-test .taken) (c .before .before .before .before .pre .room) (c .before .loop .inv) .0)
+    omega (arith, laying-room _ (c .before .before .before .before .args .width) (c .before .before .before .before .args .count) _ (c .before .before .before .before .args .from) _ (words-of (c .before .before .before .before .args .numbers .now) (λ k. c .before .before .before .shared-slice-known .given k .fits)) (c .before .loop .left) (c .before .loop .first) (c .before .loop .at) (c .loop-test .taken) (c .before .before .before .before .pre .room) (c .before .loop .inv) .0)
 
 mul-put-line : tie.Need-mul-put-line Inv-loop μ-loop
 mul-put-line c =
-    omega (arith, laying-room _ (c .before .before .before .before .args .width) (c .before .before .before .before .args .count) _ (c .before .before .before .before .args .from) _ (λ k. c .before .before .before .shared-slice-known .given k .fits) (c .before .loop .left) (c .before .loop .first) (c .before .loop .at) (c .loop-test .taken) (c .before .before .before .before .pre .room) (c .before .loop .inv) .0)
+    omega (arith, laying-room _ (c .before .before .before .before .args .width) (c .before .before .before .before .args .count) _ (c .before .before .before .before .args .from) _ (words-of (c .before .before .before .before .args .numbers .now) (λ k. c .before .before .before .shared-slice-known .given k .fits)) (c .before .loop .left) (c .before .loop .first) (c .before .loop .at) (c .loop-test .taken) (c .before .before .before .before .pre .room) (c .before .loop .inv) .0)
 
 sub-put-line : tie.Need-sub-put-line Inv-loop μ-loop
 sub-put-line c =
-    omega (arith, laying-room _ (c .before .before .before .before .args .width) (c .before .before .before .before .args .count) _ (c .before .before .before .before .args .from) _ (λ k. c .before .before .before .shared-slice-known .given k .fits) (c .before .loop .left) (c .before .loop .first) (c .before .loop .at) (c .loop-test .taken) (c .before .before .before .before .pre .room) (c .before .loop .inv) .0)
+    omega (arith, laying-room _ (c .before .before .before .before .args .width) (c .before .before .before .before .args .count) _ (c .before .before .before .before .args .from) _ (words-of (c .before .before .before .before .args .numbers .now) (λ k. c .before .before .before .shared-slice-known .given k .fits)) (c .before .loop .left) (c .before .loop .first) (c .before .loop .at) (c .loop-test .taken) (c .before .before .before .before .pre .room) (c .before .loop .inv) .0)
 
 part-put-line-start : tie.Need-part-put-line-start Inv-loop μ-loop
 part-put-line-start c =
-    omega (arith, laying-room _ (c .before .before .before .before .args .width) (c .before .before .before .before .args .count) _ (c .before .before .before .before .args .from) _ (λ k. c .before .before .before .shared-slice-known .given k .fits) (c .before .loop .left) (c .before .loop .first) (c .before .loop .at) (c .loop-test .taken) (c .before .before .before .before .pre .room) (c .before .loop .inv) .0)
+    omega (arith, laying-room _ (c .before .before .before .before .args .width) (c .before .before .before .before .args .count) _ (c .before .before .before .before .args .from) _ (words-of (c .before .before .before .before .args .numbers .now) (λ k. c .before .before .before .shared-slice-known .given k .fits)) (c .before .loop .left) (c .before .loop .first) (c .before .loop .at) (c .loop-test .taken) (c .before .before .before .before .pre .room) (c .before .loop .inv) .0)
 
 part-put-line-end : tie.Need-part-put-line-end Inv-loop μ-loop
 part-put-line-end c =
-    omega (arith, laying-room _ (c .before .before .before .before .args .width) (c .before .before .before .before .args .count) _ (c .before .before .before .before .args .from) _ (λ k. c .before .before .before .shared-slice-known .given k .fits) (c .before .loop .left) (c .before .loop .first) (c .before .loop .at) (c .loop-test .taken) (c .before .before .before .before .pre .room) (c .before .loop .inv) .0)
+    omega (arith, laying-room _ (c .before .before .before .before .args .width) (c .before .before .before .before .args .count) _ (c .before .before .before .before .args .from) _ (words-of (c .before .before .before .before .args .numbers .now) (λ k. c .before .before .before .shared-slice-known .given k .fits)) (c .before .loop .left) (c .before .loop .first) (c .before .loop .at) (c .loop-test .taken) (c .before .before .before .before .pre .room) (c .before .loop .inv) .0)
 
 put-line-requires : tie.Need-put-line-requires Inv-loop μ-loop
 put-line-requires c κs =
     let n : c .before .before .before .loop .first + c .before .before .before .before .before .before .args .width - c .before .before .before .loop .first ≡ c .before .before .before .before .before .before .args .width = omega arith in
-    rw n (laying-room _ (c .before .before .before .before .before .before .args .width) (c .before .before .before .before .before .before .args .count) _ (c .before .before .before .before .before .before .args .from) _ (λ k. c .before .before .before .before .before .shared-slice-known .given k .fits) (c .before .before .before .loop .left) (c .before .before .before .loop .first) (c .before .before .before .loop .at) (c .before .before .loop-test .taken) (c .before .before .before .before .before .before .pre .room) (c .before .before .before .loop .inv) .1)
+    rw n (laying-room _ (c .before .before .before .before .before .before .args .width) (c .before .before .before .before .before .before .args .count) _ (c .before .before .before .before .before .before .args .from) _ (words-of (c .before .before .before .before .before .before .args .numbers .now) (λ k. c .before .before .before .before .before .shared-slice-known .given k .fits)) (c .before .before .before .loop .left) (c .before .before .before .loop .first) (c .before .before .before .loop .at) (c .before .before .loop-test .taken) (c .before .before .before .before .before .before .pre .room) (c .before .before .before .loop .inv) .1)
 
 sub-left : tie.Need-sub-left Inv-loop μ-loop
 sub-left c = search needs
@@ -50,14 +51,14 @@ loop-less c = search needs
 loop-again : tie.Need-loop-again Inv-loop μ-loop
 loop-again c =
     let n : c .before .before .before .before .before .before .loop .first + c .before .before .before .before .before .before .before .before .before .args .width - c .before .before .before .before .before .before .loop .first ≡ c .before .before .before .before .before .before .before .before .before .args .width = omega arith in
-    laying-next _ (c .before .before .before .before .before .before .before .before .before .args .width) (c .before .before .before .before .before .before .before .before .before .args .count) _ (c .before .before .before .before .before .before .before .before .before .args .from) _ (λ k. c .before .before .before .before .before .before .before .before .shared-slice-known .given k .fits) (c .before .before .before .before .before .before .loop .left) (c .before .before .before .before .before .before .loop .first) (c .before .before .before .before .before .before .loop .at) _ _ (c .before .before .before .before .before .loop-test .taken) (rw n at (c .before .before .put-line .ensures)) (c .before .before .before .before .before .before .loop .inv)
+    laying-next _ (c .before .before .before .before .before .before .before .before .before .args .width) (c .before .before .before .before .before .before .before .before .before .args .count) _ (c .before .before .before .before .before .before .before .before .before .args .from) _ (words-of (c .before .before .before .before .before .before .before .before .before .args .numbers .now) (λ k. c .before .before .before .before .before .before .before .before .shared-slice-known .given k .fits)) (c .before .before .before .before .before .before .loop .left) (c .before .before .before .before .before .before .loop .first) (c .before .before .before .before .before .before .loop .at) _ _ (c .before .before .before .before .before .loop-test .taken) (rw n at (c .before .before .put-line .ensures)) (c .before .before .before .before .before .before .loop .inv)
 
 same-length : tie.Need-same-length Inv-loop μ-loop
 same-length c = c .before .loop .inv .long
 
 returns : tie.Need-returns Inv-loop μ-loop
 returns c =
-    laying-ends _ (c .before .before .before .before .args .width) (c .before .before .before .before .args .count) _ (c .before .before .before .before .args .from) _ (λ k. c .before .before .before .shared-slice-known .given k .fits) (c .before .loop .left) (c .before .loop .first) (c .before .loop .at) (c .loop-test .left) (c .before .before .before .before .pre .room) (c .before .loop .inv)
+    laying-ends _ (c .before .before .before .before .args .width) (c .before .before .before .before .args .count) _ (c .before .before .before .before .args .from) _ (words-of (c .before .before .before .before .args .numbers .now) (λ k. c .before .before .before .shared-slice-known .given k .fits)) (c .before .loop .left) (c .before .loop .first) (c .before .loop .at) (c .loop-test .left) (c .before .before .before .before .pre .room) (c .before .loop .inv)
 
 pub put-lines-spec : {M : Type 1} → statement M
 put-lines-spec =

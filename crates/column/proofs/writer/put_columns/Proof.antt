@@ -3,6 +3,7 @@ use Prim.Native.Nat.{_-_}
 use native.Mathlib.Omega.{arith}
 use borrow.Author.Needs.{needs}
 use lib.ListN.{length, getD}
+use Rattle.word.proofs.Each.{words-of}
 use Rattle.column.proofs.Writes.{word-room, Columns, columns-start, columns-next, columns-end}
 use Rattle.column.proofs.writer.put_columns.Statement.{statement}
 use Rattle.column.proofs.writer.put_columns.Tie as tie
@@ -46,7 +47,7 @@ loop-again c =
     let a = c .before .before .before .before .before .before .before .before .before .args in
     let l = c .before .before .before .before .before .before .loop in
     let shared-slice-known = c .before .before .before .before .before .before .before .before .shared-slice-known in
-    columns-next _ (a .from) _ (l .file) (l .j) _ (λ k. shared-slice-known .given k .fits) (c .before .before .before .before .before .loop-test .taken) (c .before .before .put-number .ensures) (l .inv)
+    columns-next _ (a .from) _ (l .file) (l .j) _ (words-of (a .numbers .now) (λ k. shared-slice-known .given k .fits)) (c .before .before .before .before .before .loop-test .taken) (c .before .before .put-number .ensures) (l .inv)
 
 same-length : tie.Need-same-length Inv-loop μ-loop
 same-length c = c .before .loop .inv .long

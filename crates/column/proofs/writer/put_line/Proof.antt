@@ -3,6 +3,7 @@ use mathlib.Core.Path.{_∙_}
 use native.Mathlib.Omega.{arith}
 use borrow.Author.Needs.{needs}
 use lib.ListN.{length-set}
+use Rattle.word.proofs.Each.{words-of}
 use Rattle.column.proofs.Writes.{node-room, put-node-line}
 use Rattle.column.proofs.writer.put_line.Statement.{statement}
 use Rattle.column.proofs.writer.put_line.Tie as tie
@@ -54,7 +55,7 @@ returns c =
     let s = c .before .before .before .before .before .before .before .before .before .before .before in
     let shared-slice-known = c .before .before .before .before .before .before .before .before .before .before .shared-slice-known in
     let put-number = c .before .before .before .before .before .before .before .put-number in
-    put-node-line (a .table .now) (a .node) (a .file .now) _ _ (a .from) (λ k. shared-slice-known .given k .fits) (s .pre .1 .0) (s .pre .0) (put-number .ensures)
+    put-node-line (a .table .now) (a .node) (a .file .now) _ _ (a .from) (words-of (a .table .now) (λ k. shared-slice-known .given k .fits)) (s .pre .1 .0) (s .pre .0) (put-number .ensures)
     (c .before .before .put-columns .ensures)
 
 pub put-line-spec : {M : Type 1} → statement M

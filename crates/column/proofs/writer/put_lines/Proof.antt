@@ -2,6 +2,7 @@
 use Prim.Native.Nat.{_-_}
 use native.Mathlib.Omega.{arith}
 use borrow.Author.Needs.{needs}
+use Rattle.word.proofs.Each.{words-of}
 use Rattle.column.proofs.Writes.{Writing, writing-starts, writing-next, writing-ends}
 use Rattle.column.proofs.writer.put_lines.Statement.{statement}
 use Rattle.column.proofs.writer.put_lines.Tie as tie
@@ -35,7 +36,7 @@ loop-again c =
     let s = c .before .before .before .before .before .before .before .before in
     let l = c .before .before .before .before .before .loop in
     let shared-slice-known = c .before .before .before .before .before .before .before .shared-slice-known in
-    writing-next _ (a .nodes) _ (l .file) (l .node) _ (λ k. shared-slice-known .given k .fits) (omega arith) (s .pre .0) (c .before .before .before .before .loop-test .taken) (c .before .before .put-line .ensures) (l .inv)
+    writing-next _ (a .nodes) _ (l .file) (l .node) _ (words-of (a .table .now) (λ k. shared-slice-known .given k .fits)) (omega arith) (s .pre .0) (c .before .before .before .before .loop-test .taken) (c .before .before .put-line .ensures) (l .inv)
 
 same-length : tie.Need-same-length Inv-loop μ-loop
 same-length c = c .before .loop .inv .long
@@ -43,7 +44,7 @@ same-length c = c .before .loop .inv .long
 returns : tie.Need-returns Inv-loop μ-loop
 returns c =
     let l = c .before .loop in
-    writing-ends _ (c .before .before .before .before .args .nodes) _ (l .file) (l .node) (λ k. c .before .before .before .shared-slice-known .given k .fits) (omega arith) (c .before .before .before .before .pre .0) (c .loop-test .left) (omega arith)
+    writing-ends _ (c .before .before .before .before .args .nodes) _ (l .file) (l .node) (words-of (c .before .before .before .before .args .table .now) (λ k. c .before .before .before .shared-slice-known .given k .fits)) (omega arith) (c .before .before .before .before .pre .0) (c .loop-test .left) (omega arith)
     (l .inv)
 
 pub put-lines-spec : {M : Type 1} → statement M
