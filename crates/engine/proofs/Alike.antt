@@ -51,4 +51,4 @@ module _ (n : ℕ) (t : Tree) (w : WellFormed t) (c : Complete n t) (ticks : ℕ
   unfolding ran translation
   run-is-walk small =
       rw (translation-ok n t w c small, decode-encode (translation n t))
-      (rw (results-length n t w c) same-call)
+      (rw (results-length n t w) same-call)

@@ -7,7 +7,7 @@ use native.Mathlib.Nat.{add-zero, add-suc, suc-add}
 use borrow.Author.Tests.{eqb-true}
 use lib.Dec.{eqb, leb, ltb}
 use lib.ListN.{length}
-use Rattle.word.specs.Choice.{_and_, pick}
+use Rattle.word.specs.Choice.{pick}
 use Rattle.word.specs.Operation.{operands}
 use Rattle.word.proofs.Lists.{both-true, first-true, second-true, is-below, is-most}
 use Rattle.flat.specs.Flat.{Instruction}

@@ -13,7 +13,8 @@ use Rattle.flat.proofs.Decoded.{code-header}
 use Rattle.translator.specs.declared.TranslateAnswer.{TranslateAnswer}
 use Rattle.translator.specs.declared.TranslateAnswer.the-variants.{Numbers, Refused}
 use Rattle.translator.specs.Translate.{outcome, answerOf, translatedTable, Translates}
-use Rattle.translator.proofs.Delivered.{Delivered, is-delivered, delivered-passes}
+use Rattle.translator.specs.Laws.{Delivered}
+use Rattle.translator.proofs.Delivered.{is-delivered, delivered-passes}
 use Rattle.listing.specs.Print.{codeText, refusalText, mostNumbers, outcomeText, tableText, Begins}
 use Rattle.listing.specs.Steps.{Put, Listable, PrintedTable}
 

@@ -1,6 +1,6 @@
 -- The translator's code passes the code check: it never gets refusal 13.
 use Prim.Native.Nat.{ℕ, zero, suc, _+_, _-_, _*_, _/_, _≤_, _<_}
-use mathlib.Core.Path.{_≡_, refl, sym, _∙_}
+use mathlib.Core.Path.{_≡_, refl, sym, ap₂, _∙_}
 use mathlib.Core.Bool.{true}
 use mathlib.Core.List.{List, [], _∷_, _++_}
 use native.Mathlib.Numerals.{add-one}
@@ -16,7 +16,6 @@ use Rattle.arity.specs.Tree.Tree.{leaf, join, ondemand}
 use Rattle.arity.specs.Tree.Primitive.{number, control, operation, delay, cable, cut}
 use Rattle.arity.specs.Tree.Composition.{sequence, parallel, split, merge, recursion}
 use Rattle.arity.specs.Nodes.{Complete, cellsBefore}
-use Rattle.arity.specs.Limits.{Small}
 use Rattle.arity.specs.WellFormed.{WellFormed}
 use Rattle.arity.proofs.Times.{times-whole, times-least}
 use Rattle.signal.specs.Signal.{fill}
@@ -24,12 +23,13 @@ use Rattle.calls.proofs.Holds.{Placed}
 use Rattle.calls.proofs.Placing.{all-placed}
 use Rattle.calls.proofs.Widths.{length-fill}
 use Rattle.flat.specs.Flat.{Instruction}
-use Rattle.flat.specs.Code.{encode}
-use Rattle.flat.specs.Check.{allBelow, instructionsOk, bodyOk, codeOk}
-use Rattle.flat.proofs.Encoding.{encoded-ok}
+use Rattle.flat.specs.Code.{encode, resultsAt}
+use Rattle.flat.specs.Check.{allBelow, instructionsOk, bodyOk}
+use Rattle.flat.proofs.Encoding.{encode-length, encoded-ok}
 use Rattle.flat.proofs.Passing.{number-ok, control-ok, operation-ok, addition-ok, delay-ok, read-ok, write-ok, skip-ok, none-ok, one-ok, more-ok, append-ok}
 use Rattle.translator.specs.Emit.{reads, writes, upFrom, terms, merges, emit}
 use Rattle.translator.specs.Translated.{translation}
+use Rattle.translator.specs.Laws.{TranslationOk}
 use Rattle.translator.proofs.Registers.{Below}
 use Rattle.translator.proofs.Below.{below-more, below-append, below-take, below-drop, below-tail, below-head, below-copies, below-at, below-from}
 use Rattle.translator.proofs.Pieces.{length-reads, length-writes}
@@ -170,8 +170,9 @@ module _ (cells end : ℕ) where
   all-below n [] b = refl
   all-below n (x ∷ xs) b = both-true (ltb x n) (allBelow n xs) (is-below x n (b .0)) (all-below n xs (b .1))
 
-module _ (n : ℕ) (t : Tree) (w : WellFormed t) (c : Complete n t) where
-  pub code-length : length ((translation n t) .instructions) ≡ need t
+module _ (n : ℕ) (t : Tree) (w : WellFormed t) where
+  -- "Instructions needed: .."
+  code-length : length ((translation n t) .instructions) ≡ need t
   unfolding translation
   code-length = emit-need (cellsBefore t) t (upFrom 0 (ins t)) (ins t) w
 
@@ -179,19 +180,22 @@ module _ (n : ℕ) (t : Tree) (w : WellFormed t) (c : Complete n t) where
   unfolding translation
   results-length = emit-outs (cellsBefore t) t (upFrom 0 (ins t)) (ins t) w
 
-  code-passes : instructionsOk (cellsBefore t n) (ins t + need t) (ins t) ((translation n t) .instructions) ≡ true
+  -- "length .. 4+5c+m"
+  pub encoded-length : length (encode (translation n t)) ≡ resultsAt (need t) + outs t
+  encoded-length = encode-length (translation n t) ∙ ap₂ (λ (c m : ℕ). resultsAt c + m) code-length results-length
+
+  code-passes : Complete n t → instructionsOk (cellsBefore t n) (ins t + need t) (ins t) ((translation n t) .instructions) ≡ true
   unfolding translation
-  code-passes =
+  code-passes c =
       emit-passes (cellsBefore t n) (ins t + need t) (cellsBefore t) t (upFrom 0 (ins t)) (ins t) w (all-placed n t c) (length-upFrom 0 (ins t)) (below-from (ins t) 0 (ins t) (omega arith)) (omega arith)
 
   results-below : Below (ins t + need t) ((translation n t) .results)
   unfolding translation
   results-below = emit-below (cellsBefore t) t (upFrom 0 (ins t)) (ins t) w (length-upFrom 0 (ins t)) (below-from (ins t) 0 (ins t) (omega arith))
 
-  -- the translator's code passes the code check
-  pub translation-ok : Small n t → codeOk (encode (translation n t)) ≡ true
-  unfolding translation
-  translation-ok s =
-      let k = translation n t in
-      let b : bodyOk (ins t + need t) k ≡ true = both-true _ _ code-passes (all-below (cellsBefore t n) (ins t + need t) (ins t + need t) (k .results) results-below) in
-      encoded-ok k (s .inputs) (rw results-length (s .outputs)) (rw code-length (s .instructions)) (s .cells) (rw code-length b)
+pub translation-ok : TranslationOk
+unfolding translation
+translation-ok n t w c s =
+    let k = translation n t in
+    let b : bodyOk (ins t + need t) k ≡ true = both-true _ _ (code-passes n t w c) (all-below (cellsBefore t n) (ins t + need t) (ins t + need t) (k .results) (results-below n t w)) in
+    encoded-ok k (s .inputs) (rw (results-length n t w) (s .outputs)) (rw (code-length n t w) (s .instructions)) (s .cells) (rw (code-length n t w) b)

@@ -5,7 +5,7 @@ use mathlib.Core.List.{List, [], _∷_, _++_}
 use native.Mathlib.Omega.{arith}
 use lib.Dec.{eqb}
 use lib.ListN.{length, getD, take, drop}
-use lib.Seq.{take-take, take-nil, length-take-le}
+use lib.Seq.{take-take, take-nil}
 use Rattle.word.specs.Choice.{pick}
 use Rattle.word.specs.Operation.{operands}
 use Rattle.word.specs.Tick.{headOr, tailOf}
@@ -16,7 +16,7 @@ use Rattle.arity.specs.Survey.{rowAt}
 use Rattle.arity.specs.Promise.{Node}
 use Rattle.arity.specs.declared.rows.Row.{Row}
 use Rattle.walker.specs.Ready.{base, Demands, leftTree, insOf, outsOf}
-use Rattle.flat.specs.Flat.{Instruction, instruction}
+use Rattle.flat.specs.Flat.{instruction}
 use Rattle.flat.specs.Instructions as flat
 use Rattle.translator.specs.Emit.{Emitted, emitted, single, emit, reads, writes, upFrom}
 use Rattle.translator.specs.Writing.{Room, Written, Puts}

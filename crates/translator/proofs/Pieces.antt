@@ -2,7 +2,7 @@
 use Prim.Native.Nat.{ℕ, zero, suc, _+_}
 use mathlib.Core.Path.{_≡_, refl, ap, _∙_}
 use mathlib.Core.Bool.{Bool, true, false}
-use mathlib.Core.List.{List, [], _∷_, _++_, append-assoc, append-nil}
+use mathlib.Core.List.{List, [], _∷_, _++_, append-nil}
 use native.Mathlib.Omega.{arith}
 use lib.ListN.{length, getD, set, length-append}
 use Rattle.word.specs.Choice.{pick}
@@ -87,18 +87,24 @@ module _ (controls : List ℕ) where
   gated true d = (d .after, d .run)
   gated false {body} {ρ} {cs} d = (ρ ++ zeros (length body), execute-all-skipped controls body ρ cs)
 
+  skipped : (r v : ℕ) (body : List Instruction) {js : List Instruction} {rs ρ cs ρ′ cs₁ ys cs″ : List ℕ} → Holds ρ r v
+      → execute controls body (machine (ρ ++ (0 ∷ [])) (pick (demand v) 0 (length body)) cs) ≡ machine ρ′ 0 cs₁ → Does js rs ρ′ cs₁ ys cs″
+      → Does (flat.skip r (length body) ∷ (body ++ js)) rs ρ cs ys cs″
+  skipped r v body {js} {ρ = ρ} {cs} h e o =
+      let s : ℕ = pick (demand v) 0 (length body) in
+      record {
+        after = o .after;
+        run = execute-first controls (flat.skip r (length body)) (body ++ js) ρ cs cs 0 s (skip-works controls ρ cs r (length body) (h .value)) ∙ resume body (machine (ρ ++ (0 ∷ [])) s cs) e o;
+        gives = o .gives;
+      }
+
   pub skip-do : {r v : ℕ} {body js : List Instruction} {rs ρ cs ys cs′ cs″ : List ℕ} → Holds ρ r v → Does body [] (ρ ++ (0 ∷ [])) cs [] cs′
       → ((ρ′ : List ℕ) → length ρ′ ≡ length ρ + 1 + length body → Does js rs ρ′ (pick (demand v) cs′ cs) ys cs″)
       → Does (flat.skip r (length body) ∷ (body ++ js)) rs ρ cs ys cs″
-  skip-do {r} {v} {body} {js} {ρ = ρ} {cs} h d k =
+  skip-do {r} {v} {body} {ρ = ρ} {cs} h d k =
       let (ρ′, e) = gated (demand v) d in
       let g : Kept (ρ ++ (0 ∷ [])) ρ′ (length body) = rw e at (execute-keeps body (machine (ρ ++ (0 ∷ [])) (pick (demand v) 0 (length body)) cs)) in
-      let o = k ρ′ (omega (arith, kept-length g, length-append ρ (0 ∷ []))) in
-      record {
-        after = o .after;
-        run = execute-first controls (flat.skip r (length body)) (body ++ js) ρ cs cs 0 (pick (demand v) 0 (length body)) (skip-works controls ρ cs r (length body) (h .value)) ∙ resume body _ e o;
-        gives = o .gives;
-      }
+      skipped r v body h e (k ρ′ (omega (arith, kept-length g, length-append ρ (0 ∷ []))))
 
 pub length-reads : (a k : ℕ) → length (reads a k) ≡ k
 length-reads a zero = refl
