@@ -37,7 +37,7 @@ longest-ticks x amount controls cs = tick-right 1 longest (tick (x ∷ amount �
 
 -- a circuit as large as one can be
 largest-passes : (n : ℕ) (t : Tree) → WellFormed t → Complete n t → ins t ≡ 32 → outs t ≡ 32 → need t ≡ 2048 → cellsBefore t n ≡ 16384 → codeOk (encode (translation n t)) ≡ true
-largest-passes n t w c i o k d = translation-ok n t w c (record { inputs = omega arith; outputs = omega arith; instructions = omega arith; cells = omega arith })
+largest-passes n t w c i o k d = translation-ok n t w c (omega arith) (omega arith) (omega arith) (omega arith)
 
 -- a buffer with no number to spare: nothing of its content is left
 module _ {table code code′ : List ℕ} (t : Translates table code (Numbers (length code)) code′) where

@@ -195,7 +195,7 @@ module _ (n : ℕ) (t : Tree) (w : WellFormed t) where
 
 pub translation-ok : TranslationOk
 unfolding translation
-translation-ok n t w c s =
-    let k = translation n t in
-    let b : bodyOk (ins t + need t) k ≡ true = both-true _ _ (code-passes n t w c) (all-below (cellsBefore t n) (ins t + need t) (ins t + need t) (k .results) (results-below n t w)) in
-    encoded-ok k (s .inputs) (rw (results-length n t w) (s .outputs)) (rw (code-length n t w) (s .instructions)) (s .cells) (rw (code-length n t w) b)
+translation-ok n t w c i o k d =
+    let x = translation n t in
+    let b : bodyOk (ins t + need t) x ≡ true = both-true _ _ (code-passes n t w c) (all-below (cellsBefore t n) (ins t + need t) (ins t + need t) (x .results) (results-below n t w)) in
+    encoded-ok x (omega arith) (omega (arith, results-length n t w)) (omega (arith, code-length n t w)) (omega arith) (rw (code-length n t w) b)

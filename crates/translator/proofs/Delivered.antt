@@ -84,4 +84,5 @@ unfolding translated
 delivered-passes {table} t n e words =
     let p = promise (was-accepted t n e) refl words in
     let d = is-delivered t n e in
-    rw (delivered t n e words) (translation-ok (nodes table) (circuit table) (p .wellFormed) (p .complete) (p .small (d .short) (omega (arith, d .few, p .celled))))
+    let s = p .small (d .short) (omega (arith, d .few, p .celled)) in
+    rw (delivered t n e words) (translation-ok (nodes table) (circuit table) (p .wellFormed) (p .complete) (s .inputs) (s .outputs) (s .instructions) (s .cells))

@@ -6,10 +6,9 @@ use mathlib.Core.List.{List, _++_}
 use lib.ListN.{length, take, drop}
 use Rattle.word.specs.Tick.{Tick}
 use Rattle.refusal.specs.Answer.{count}
-use Rattle.arity.specs.Tree.{Tree, ins, need}
+use Rattle.arity.specs.Tree.{Tree, ins, outs, need}
 use Rattle.arity.specs.Table.{nodes, circuit}
 use Rattle.arity.specs.Nodes.{Complete, cellsBefore}
-use Rattle.arity.specs.Limits.{Small}
 use Rattle.arity.specs.WellFormed.{WellFormed}
 use Rattle.arity.specs.Promise.{Words}
 use Rattle.calls.specs.Step.{step}
@@ -24,9 +23,10 @@ abbrev pub TickRight : Type 0
 TickRight = (n : ℕ) (t : Tree) (f : Tick) (cs : List ℕ) → WellFormed t → length (f .inputs) ≡ ins t
     → codeTick (translation n t) f cs ≡ step (cellsBefore t) t f cs
 
--- the code of a circuit of n nodes within the limits never gets refusal 13
+-- the code of a circuit of n nodes that refusals 8, 10 and 11 let pass never gets refusal 13
 abbrev pub TranslationOk : Type 0
-TranslationOk = (n : ℕ) (t : Tree) → WellFormed t → Complete n t → Small n t → codeOk (encode (translation n t)) ≡ true
+TranslationOk = (n : ℕ) (t : Tree) → WellFormed t → Complete n t → ins t ≤ 32 → outs t ≤ 32 → need t ≤ 2048 → cellsBefore t n ≤ 16384
+    → codeOk (encode (translation n t)) ≡ true
 
 -- where `translate` answers n, the first n numbers of the buffer are the code of the table
 abbrev pub DeliversCode : (table code : List ℕ) → TranslateAnswer → (code′ : List ℕ) → Type 0
