@@ -50,5 +50,5 @@ module _ (n : ℕ) (t : Tree) (w : WellFormed t) (c : Complete n t) (ticks : ℕ
       ≡ called (step (cellsBefore t) t) (ins t) (outs t) (cellsBefore t n) ticks inputs controls cells outputs
   unfolding ran translation
   run-is-walk small =
-      rw (translation-ok n t w c small, decode-encode (translation n t))
-      (rw (results-length n t w c) same-call)
+      rw (translation-ok n t w c (small .inputs) (small .outputs) (small .instructions) (small .cells), decode-encode (translation n t))
+      (rw (results-length n t w) same-call)

@@ -1,45 +1,68 @@
 -- The effect of an instruction of each kind, and of instructions one after another.
 use Prim.Native.Nat.{ℕ, suc}
-use mathlib.Core.Path.{_≡_, refl, ap, _∙_}
+use mathlib.Core.Path.{_≡_, refl, sym, ap, ap₂, _∙_}
+use mathlib.Core.Bool.{Bool, true, false, false≢true}
 use mathlib.Core.List.{List, [], _∷_, _++_, append-assoc, append-nil}
+use borrow.Author.Tests.{eqb-true, ne-eqb}
 use lib.Dec.{eqb}
 use lib.ListN.{length, getD, set}
 use Rattle.word.specs.Choice.{pick}
-use Rattle.word.specs.Operation.{operate, operands, demand}
+use Rattle.word.specs.Operation.{operate, operands, add, demand}
 use Rattle.word.specs.Tick.{zeros}
 use Rattle.cells.specs.Delay.{delayed, moved}
-use Rattle.flat.specs.Flat.{Instruction, instruction, Machine, machine, Effect, effect, worked, execute, execute1}
+use Rattle.flat.specs.Flat.{Instruction, Machine, machine, Effect, effect, worked, execute, execute1}
+use Rattle.flat.specs.Instructions as flat
+
+-- an operation that has not two inputs does not look at the second
+module _ (op : ℕ) (e : eqb (operands op) 2 ≡ false) where
+  other : (k : ℕ) → eqb (operands k) 2 ≡ true → eqb op k ≡ false
+  other k t = ne-eqb op k (λ q. false≢true (sym (rw q at e) ∙ t))
+
+  pub second-unused : (x y z : ℕ) → operate op x y ≡ operate op x z
+  unfolding operate operands
+  second-unused x y z = simp (other 1 refl, other 2 refl, other 3 refl, other 4 refl, other 5 refl, other 6 refl, other 7 refl)
 
 module _ (controls : List ℕ) where
-  -- one instruction, over registers ρ and cells cs
+  -- one instruction, over registers ρ and cells cs, by the values u and v of the registers x and y
   module _ (ρ cs : List ℕ) where
-    pub number-works : (v b c d : ℕ) → worked controls (instruction 1 v b c d) ρ cs ≡ effect v 0 cs
+    pub number-works : (v : ℕ) → worked controls (flat.number v) ρ cs ≡ effect v 0 cs
     unfolding worked
-    number-works v b c d = refl
+    number-works v = refl
 
-    pub control-works : (slot b c d : ℕ) → worked controls (instruction 2 slot b c d) ρ cs ≡ effect (getD controls slot 0) 0 cs
+    pub control-works : (slot : ℕ) → worked controls (flat.control slot) ρ cs ≡ effect (getD controls slot 0) 0 cs
     unfolding worked
-    control-works slot b c d = refl
+    control-works slot = refl
 
-    pub operation-works : (op x y d : ℕ) → worked controls (instruction 3 op x y d) ρ cs ≡ effect (operate op (getD ρ x 0) (pick (eqb (operands op) 2) (getD ρ y 0) 0)) 0 cs
+    pub operation-works : (op x y : ℕ) {u v : ℕ} → getD ρ x 0 ≡ u → (operands op ≡ 2 → getD ρ y 0 ≡ v) → worked controls (flat.operation op x y) ρ cs ≡ effect (operate op u v) 0 cs
     unfolding worked
-    operation-works op x y d = refl
+    operation-works op x y {u} {v} e g = ap (λ w. effect w 0 cs) (ap (λ w. operate op w (operand (eqb (operands op) 2))) e ∙ go (eqb (operands op) 2) refl)
+      where
+        operand : Bool → ℕ
+        operand two = pick two (getD ρ (pick two y 0) 0) 0
 
-    pub delay-works : (x y a d : ℕ) → worked controls (instruction 4 x y a d) ρ cs ≡ effect (delayed a d (getD ρ x 0) (getD ρ y 0) cs) 0 (moved a d (getD ρ x 0) cs)
-    unfolding worked
-    delay-works x y a d = refl
+        go : (two : Bool) → eqb (operands op) 2 ≡ two → operate op u (operand two) ≡ operate op u v
+        go true t = ap (operate op u) (g (eqb-true (operands op) 2 t))
+        go false t = second-unused op t u 0 v
 
-    pub read-works : (a b c d : ℕ) → worked controls (instruction 5 a b c d) ρ cs ≡ effect (getD cs a 0) 0 cs
-    unfolding worked
-    read-works a b c d = refl
+    pub addition-works : (x y : ℕ) {u v : ℕ} → getD ρ x 0 ≡ u → getD ρ y 0 ≡ v → worked controls (flat.addition x y) ρ cs ≡ effect (add u v) 0 cs
+    unfolding worked operate operands
+    addition-works x y e g = ap₂ (λ u v. effect (add u v) 0 cs) e g
 
-    pub write-works : (a x c d : ℕ) → worked controls (instruction 6 a x c d) ρ cs ≡ effect 0 0 (set cs a (getD ρ x 0))
+    pub delay-works : (x y a d : ℕ) {u v : ℕ} → getD ρ x 0 ≡ u → getD ρ y 0 ≡ v → worked controls (flat.delay x y a d) ρ cs ≡ effect (delayed a d u v cs) 0 (moved a d u cs)
     unfolding worked
-    write-works a x c d = refl
+    delay-works x y a d e g = ap₂ (λ u v. effect (delayed a d u v cs) 0 (moved a d u cs)) e g
 
-    pub skip-works : (x k c d : ℕ) → worked controls (instruction 7 x k c d) ρ cs ≡ effect 0 (pick (demand (getD ρ x 0)) 0 k) cs
+    pub read-works : (a : ℕ) → worked controls (flat.read a) ρ cs ≡ effect (getD cs a 0) 0 cs
     unfolding worked
-    skip-works x k c d = refl
+    read-works a = refl
+
+    pub write-works : (a x : ℕ) {v : ℕ} → getD ρ x 0 ≡ v → worked controls (flat.write a x) ρ cs ≡ effect 0 0 (set cs a v)
+    unfolding worked
+    write-works a x e = ap (λ v. effect 0 0 (set cs a v)) e
+
+    pub skip-works : (x k : ℕ) {v : ℕ} → getD ρ x 0 ≡ v → worked controls (flat.skip x k) ρ cs ≡ effect 0 (pick (demand v) 0 k) cs
+    unfolding worked
+    skip-works x k e = ap (λ v. effect 0 (pick (demand v) 0 k) cs) e
 
   -- execution, one instruction on
   pub execute-none : (m : Machine) → execute controls [] m ≡ m

@@ -7,7 +7,6 @@ use native.Mathlib.Nat.{zero-add, add-zero, suc-add}
 use native.Mathlib.Omega.{arith}
 use lib.ListN.{length, getD, set, take, drop, length-set, length-append, length-drop, length-replicate, drop-of-length-le}
 use lib.Seq.{drop-drop, take-suc-set, take-at, length-take-le}
-use Rattle.word.specs.Choice.{_and_}
 use Rattle.word.specs.Tick.{zeros}
 use Rattle.word.proofs.Lists.{first-true, second-true}
 use Rattle.flat.specs.Flat.{Instruction, width, Machine, machine, effect, worked, execute}

@@ -7,19 +7,20 @@ use native.Mathlib.Nat.{add-zero, add-suc, suc-add}
 use borrow.Author.Tests.{eqb-true}
 use lib.Dec.{eqb, leb, ltb}
 use lib.ListN.{length}
-use Rattle.word.specs.Choice.{_and_, pick}
+use Rattle.word.specs.Choice.{pick}
 use Rattle.word.specs.Operation.{operands}
 use Rattle.word.proofs.Lists.{both-true, first-true, second-true, is-below, is-most}
-use Rattle.flat.specs.Flat.{Instruction, instruction}
+use Rattle.flat.specs.Flat.{Instruction}
+use Rattle.flat.specs.Instructions as flat
 use Rattle.flat.specs.Check.{instructionOk, instructionsOk}
 
 -- in a code of so many cells, whose registers end before `end`, with the own register r
 module _ (cells end r : ℕ) where
-  pub number-ok : (v : ℕ) → instructionOk cells end r (instruction 1 v 0 0 0) ≡ true
+  pub number-ok : (v : ℕ) → instructionOk cells end r (flat.number v) ≡ true
   unfolding instructionOk
   number-ok v = refl
 
-  pub control-ok : (slot : ℕ) → slot < 16 → instructionOk cells end r (instruction 2 slot 0 0 0) ≡ true
+  pub control-ok : (slot : ℕ) → slot < 16 → instructionOk cells end r (flat.control slot) ≡ true
   unfolding instructionOk
   control-ok slot h = both-true (ltb slot 16) true (is-below slot 16 h) refl
 
@@ -27,28 +28,31 @@ module _ (cells end r : ℕ) where
   second-ok y true g = is-below y r (g refl)
   second-ok y false g = refl
 
-  -- "a one-input op has 0 for the last"
-  pub operation-ok : (op x y : ℕ) → 0 < operands op → x < r → (operands op ≡ 2 → y < r) → instructionOk cells end r (instruction 3 op x (pick (eqb (operands op) 2) y 0) 0) ≡ true
+  pub operation-ok : (op x y : ℕ) → 0 < operands op → x < r → (operands op ≡ 2 → y < r) → instructionOk cells end r (flat.operation op x y) ≡ true
   unfolding instructionOk
   operation-ok op x y o h g =
       both-true (ltb 0 (operands op)) _ (is-below 0 (operands op) o)
       (both-true (ltb x r) _ (is-below x r h)
       (both-true _ true (second-ok y (eqb (operands op) 2) (λ e. g (eqb-true (operands op) 2 e))) refl))
 
-  pub delay-ok : (x y a d : ℕ) → x < r → y < r → d ≤ 4095 → a + suc d ≤ cells → instructionOk cells end r (instruction 4 x y a d) ≡ true
+  pub addition-ok : (x y : ℕ) → x < r → y < r → instructionOk cells end r (flat.addition x y) ≡ true
+  unfolding instructionOk operands
+  addition-ok x y h g = both-true (ltb x r) _ (is-below x r h) (both-true (ltb y r) true (is-below y r g) refl)
+
+  pub delay-ok : (x y a d : ℕ) → x < r → y < r → d ≤ 4095 → a + suc d ≤ cells → instructionOk cells end r (flat.delay x y a d) ≡ true
   unfolding instructionOk
   delay-ok x y a d h g l u =
       both-true (ltb x r) _ (is-below x r h) (both-true (ltb y r) _ (is-below y r g) (both-true (leb d 4095) _ (is-most d 4095 l) (is-most (a + suc d) cells u)))
 
-  pub read-ok : (a : ℕ) → a < cells → instructionOk cells end r (instruction 5 a 0 0 0) ≡ true
+  pub read-ok : (a : ℕ) → a < cells → instructionOk cells end r (flat.read a) ≡ true
   unfolding instructionOk
   read-ok a h = both-true (ltb a cells) true (is-below a cells h) refl
 
-  pub write-ok : (a x : ℕ) → a < cells → x < r → instructionOk cells end r (instruction 6 a x 0 0) ≡ true
+  pub write-ok : (a x : ℕ) → a < cells → x < r → instructionOk cells end r (flat.write a x) ≡ true
   unfolding instructionOk
   write-ok a x h g = both-true (ltb a cells) _ (is-below a cells h) (both-true (ltb x r) true (is-below x r g) refl)
 
-  pub skip-ok : (x k : ℕ) → x < r → suc (r + k) ≤ end → instructionOk cells end r (instruction 7 x k 0 0) ≡ true
+  pub skip-ok : (x k : ℕ) → x < r → suc (r + k) ≤ end → instructionOk cells end r (flat.skip x k) ≡ true
   unfolding instructionOk
   skip-ok x k h g = both-true (ltb x r) _ (is-below x r h) (both-true (leb (suc (r + k)) end) true (is-most (suc (r + k)) end g) refl)
 
@@ -59,6 +63,10 @@ module _ (cells end r : ℕ) where
   pub more-ok : (x : Instruction) (xs : List Instruction) → instructionOk cells end r x ≡ true → instructionsOk cells end (suc r) xs ≡ true → instructionsOk cells end r (x ∷ xs) ≡ true
   unfolding instructionsOk
   more-ok x xs p q = both-true _ _ p q
+
+  pub one-ok : (x : Instruction) → instructionOk cells end r x ≡ true → instructionsOk cells end r (x ∷ []) ≡ true
+  unfolding instructionsOk
+  one-ok x p = both-true _ true p refl
 
 pub append-ok : (cells end r : ℕ) (xs ys : List Instruction) → instructionsOk cells end r xs ≡ true → instructionsOk cells end (r + length xs) ys ≡ true → instructionsOk cells end r (xs ++ ys) ≡ true
 unfolding instructionsOk

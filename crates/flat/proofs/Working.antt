@@ -4,7 +4,7 @@ use mathlib.Core.Path.{_≡_, refl, sym, _∙_, subst}
 use mathlib.Core.Bool.{Bool, true, false, false≢true}
 use mathlib.Core.List.{List}
 use native.Mathlib.Omega.{arith}
-use borrow.Author.Tests.{leb-true, eqb-true, ltb-true, lt-ltb, ne-eqb}
+use borrow.Author.Tests.{leb-true, eqb-true, ltb-true, lt-ltb}
 use lib.Dec.{eqb, leb, ltb}
 use lib.ListN.{length, getD, take, List·getD-eq-default}
 use lib.Seq.{getD-take}
@@ -14,22 +14,14 @@ use Rattle.flat.specs.Flat.{Instruction, instruction, effect, worked}
 use Rattle.flat.specs.Check.{instructionOk}
 use Rattle.flat.specs.Steps.{Workable}
 use Rattle.flat.proofs.Decoded.{four}
-
--- an operation that has not two inputs does not look at the second
-module _ (op : ℕ) (e : eqb (operands op) 2 ≡ false) where
-  other : (k : ℕ) → eqb (operands k) 2 ≡ true → eqb op k ≡ false
-  other k t = ne-eqb op k (λ q. false≢true (sym (rw q at e) ∙ t))
-
-  alone : (x y z : ℕ) → operate op x y ≡ operate op x z
-  unfolding operate operands
-  alone x y z = simp (other 1 refl, other 2 refl, other 3 refl, other 4 refl, other 5 refl, other 6 refl, other 7 refl)
+use Rattle.flat.proofs.Effects.{second-unused}
 
 pub operate-pick : (op x y : ℕ) → operate op x (pick (eqb (operands op) 2) y 0) ≡ operate op x y
 operate-pick op x y = go (eqb (operands op) 2) refl
   where
     go : (t : Bool) → eqb (operands op) 2 ≡ t → operate op x (pick t y 0) ≡ operate op x y
     go true e = refl
-    go false e = alone op e x 0 y
+    go false e = second-unused op e x 0 y
 
 -- the rows of the table, by their codes
 pub data Row : ℕ → Type 0 where

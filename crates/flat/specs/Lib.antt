@@ -1,4 +1,5 @@
 pub mod Flat
+pub mod Instructions
 pub mod Code
 pub mod Check
 pub mod Run

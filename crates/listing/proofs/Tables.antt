@@ -14,7 +14,8 @@ use Rattle.translator.specs.declared.TranslateAnswer.{TranslateAnswer}
 use Rattle.translator.specs.declared.TranslateAnswer.the-variants.{Numbers, Refused}
 use Rattle.refusal.specs.Outcome.{outcome}
 use Rattle.translator.specs.Translate.{answerOf, translatedTable, Translates}
-use Rattle.translator.proofs.Delivered.{Delivered, is-delivered, delivered-passes}
+use Rattle.translator.specs.Laws.{Delivered}
+use Rattle.translator.proofs.Delivered.{is-delivered, delivered-passes}
 use Rattle.listing.specs.Print.{codeText, refusalText, mostNumbers, outcomeText, tableText, Begins}
 use Rattle.listing.specs.Steps.{Put, Listable, PrintedTable}
 

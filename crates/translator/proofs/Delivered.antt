@@ -1,5 +1,5 @@
 -- What `translate` has written when it answers a count: the table was accepted within the limits, and the buffer begins with its code.
-use Prim.Native.Nat.{ℕ, _+_, _≤_}
+use Prim.Native.Nat.{ℕ}
 use mathlib.Core.Path.{_≡_, refl, sym, ap, _∙_}
 use mathlib.Core.Bool.{Bool, true, false}
 use mathlib.Core.List.{List, _++_}
@@ -24,15 +24,8 @@ use Rattle.translator.specs.declared.TranslateAnswer.{TranslateAnswer}
 use Rattle.translator.specs.Translated.{translated}
 use Rattle.refusal.specs.Outcome.{Outcome, outcome}
 use Rattle.translator.specs.Translate.{answerOf, numbersOf, translates, translatedBy, translatedTable, Translates}
-use Rattle.translator.proofs.Accepted.{code-count, code-passes}
-
--- what an accepted table leaves in the code buffer
-pub record Delivered (table code : List ℕ) (n : ℕ) (code′ : List ℕ) : Type 0 where
-  pub counted : n ≡ numbersOf table
-  pub within : numbersOf table ≤ length code
-  pub short : need (circuit table) ≤ 2048
-  pub few : cellsBefore (circuit table) (nodes table) ≤ 16384
-  pub is : code′ ≡ translated table ++ drop (numbersOf table) code
+use Rattle.translator.specs.Laws.{DeliversCode, Delivered}
+use Rattle.translator.proofs.Checked.{encoded-length, translation-ok}
 
 never : (n k : ℕ) (code code′ : List ℕ) → outcome (count n) code′ ≡ outcome (refusedAll k) code → ⊥
 never n k code code′ e = let a : count n ≡ refusedAll k = ap (λ (o : Outcome). o .answer) e in let z : _≡_ {A = ℕ} 0 1 = cc a in omega arith
@@ -79,14 +72,18 @@ module _ {table code : List ℕ} {a : TranslateAnswer} {code′ : List ℕ} (t :
   pub was-accepted : Checked table (Accepted (ins (circuit table)) (outs (circuit table)) (need (circuit table)) (firstCell table (nodes table)))
   was-accepted = accepted-as (t .place) table (is-counted .0) (t .isLoose) (is-counted .1)
 
-  module _ (words : Words table) where
-    pub delivered : take n code′ ≡ translated table
-    delivered =
-        let long : length (translated table) ≡ numbersOf table = code-count was-accepted words in
-        rw (is-delivered .is, is-delivered .counted) (take-at (translated table) (drop (numbersOf table) code) (numbersOf table) long)
+pub delivered : {table code : List ℕ} {a : TranslateAnswer} {code′ : List ℕ} → DeliversCode table code a code′
+unfolding translated
+delivered {table} {code} t n e words =
+    let d = is-delivered t n e in
+    let long : length (translated table) ≡ numbersOf table = encoded-length (nodes table) (circuit table) (promise (was-accepted t n e) refl words .wellFormed) in
+    rw (d .is, d .counted) (take-at (translated table) (drop (numbersOf table) code) (numbersOf table) long)
 
-    -- refusal 13 never
-    pub delivered-passes : codeOk (take n code′) ≡ true
-    delivered-passes =
-        let few : firstCell table (nodes table) ≤ 16384 = omega (arith, is-delivered .few, promise was-accepted refl words .celled) in
-        rw delivered (code-passes was-accepted words (is-delivered .short) few)
+-- refusal 13 never
+pub delivered-passes : {table code : List ℕ} {a : TranslateAnswer} {code′ : List ℕ} → Translates table code a code′ → (n : ℕ) → answerOf a ≡ count n → Words table → codeOk (take n code′) ≡ true
+unfolding translated
+delivered-passes {table} t n e words =
+    let p = promise (was-accepted t n e) refl words in
+    let d = is-delivered t n e in
+    let s = p .small (d .short) (omega (arith, d .few, p .celled)) in
+    rw (delivered t n e words) (translation-ok (nodes table) (circuit table) (p .wellFormed) (p .complete) (s .inputs) (s .outputs) (s .instructions) (s .cells))

@@ -5,7 +5,7 @@ use mathlib.Core.List.{List, [], _∷_, _++_}
 use native.Mathlib.Omega.{arith}
 use lib.Dec.{eqb}
 use lib.ListN.{length, getD, take, drop}
-use lib.Seq.{take-take, take-nil, length-take-le}
+use lib.Seq.{take-take, take-nil}
 use Rattle.word.specs.Choice.{pick}
 use Rattle.word.specs.Operation.{operands}
 use Rattle.word.specs.Tick.{headOr, tailOf}
@@ -16,7 +16,8 @@ use Rattle.arity.specs.Survey.{rowAt}
 use Rattle.arity.specs.Promise.{Node}
 use Rattle.arity.specs.declared.rows.Row.{Row}
 use Rattle.walker.specs.Ready.{base, Demands, leftTree, insOf, outsOf}
-use Rattle.flat.specs.Flat.{Instruction, instruction}
+use Rattle.flat.specs.Flat.{instruction}
+use Rattle.flat.specs.Instructions as flat
 use Rattle.translator.specs.Emit.{Emitted, emitted, single, emit, reads, writes, upFrom}
 use Rattle.translator.specs.Writing.{Room, Written, Puts}
 use Rattle.translator.specs.Parts.{emission, outsAt, insAt, skippingOf, holdingOf, Emits, Skips, Holds, Translatable}
@@ -55,11 +56,11 @@ module _ {table shape : List ℕ} {i : ℕ} (t : Translatable table shape) (insi
       }
 
   module _ (p : Progress) {v : ℕ} (ev : v ≡ firstAt table i) where
-    pub number-leaf : kindAt table i ≡ 1 → Leaf table i p (single (instruction 1 v 0 0 0) (p .place .next)) 1
+    pub number-leaf : kindAt table i ≡ 1 → Leaf table i p (single (flat.number v) (p .place .next)) 1
     unfolding emit outs
     number-leaf e = leaf-by 1 p e (omega arith) (rw ev) refl
 
-    pub control-leaf : kindAt table i ≡ 2 → Leaf table i p (single (instruction 2 v 0 0 0) (p .place .next)) 1
+    pub control-leaf : kindAt table i ≡ 2 → Leaf table i p (single (flat.control v) (p .place .next)) 1
     unfolding emit outs
     control-leaf e = leaf-by 2 p e (omega arith) (rw ev) refl
 
@@ -71,7 +72,7 @@ module _ {table shape : List ℕ} {i : ℕ} (t : Translatable table shape) (insi
     operation-leaf e ev ey ez = leaf-by 3 p e (omega arith) (rw (ez, ey, ex, en, ev)) refl
 
     pub delay-leaf : {v y : ℕ} {row : Row} → kindAt table i ≡ 4 → v ≡ firstAt table i → y ≡ getD (take n (p .regs)) 1 0 → row ≡ rowAt shape i
-        → Leaf table i p (single (instruction 4 x y (row .cell) v) (p .place .next)) 1
+        → Leaf table i p (single (flat.delay x y (row .cell) v) (p .place .next)) 1
     unfolding emit outs
     delay-leaf e ev ey er =
         let a = ap (λ (r : Row). r .cell) er ∙ t .ready .row i inside .cell in
@@ -135,13 +136,13 @@ module _ {table shape : List ℕ} {i : ℕ} (t : Translatable table shape) (d : 
     pub over-few : row .instructions + row .outputs ≤ 2080
     over-few = omega (arith, over-need, over-outs, body .instructions, body .outputs, t .instructions)
 
-    skip-is : (p : Progress) → skippingOf table i p .code ≡ instruction 7 (getD (p .regs) 0 0) (row .instructions + row .outputs) 0 0 ∷ []
+    skip-is : (p : Progress) → skippingOf table i p .code ≡ flat.skip (getD (p .regs) 0 0) (row .instructions + row .outputs) ∷ []
     skip-is p = rw (ins-more, head-of (ins (leftTree table i)) (p .regs), over-need, over-outs)
 
-    pub skip-fits : (p : Progress) {c : List ℕ} → Room (skippingOf table i p .code) (p .place) c → Room (instruction 7 (getD (p .regs) 0 0) (row .instructions + row .outputs) 0 0 ∷ []) (p .place) c
+    pub skip-fits : (p : Progress) {c : List ℕ} → Room (skippingOf table i p .code) (p .place) c → Room (flat.skip (getD (p .regs) 0 0) (row .instructions + row .outputs) ∷ []) (p .place) c
     skip-fits p r = rw (skip-is p) at r
 
-    pub skips : {p : Progress} {s : Place} {c c₁ us : List ℕ} → Written (instruction 7 (getD (p .regs) 0 0) (row .instructions + row .outputs) 0 0 ∷ []) (p .place) c s c₁
+    pub skips : {p : Progress} {s : Place} {c c₁ us : List ℕ} → Written (flat.skip (getD (p .regs) 0 0) (row .instructions + row .outputs) ∷ []) (p .place) c s c₁
         → take (32 - 1) us ≡ drop 1 (p .regs) → Skips table i p c (record { regs = us; place = s }) c₁
     skips {p} {us = us} w h =
         let few : ins (leftTree table i) ≤ 31 = omega (arith, ins-more, own .inputs) in

@@ -1,6 +1,6 @@
 -- What each loop of the translator writes next: an instruction on a cell, a term of a sum, a sum of a merge.
 use Prim.Native.Nat.{ℕ, zero, suc, _+_, _-_, _≤_, _<_}
-use mathlib.Core.Path.{_≡_, refl, sym, ap, ap₂, subst, subst₂, _∙_}
+use mathlib.Core.Path.{_≡_, refl, sym, ap, subst, subst₂, _∙_}
 use mathlib.Core.List.{List, [], _∷_, _++_, append-nil}
 use native.Mathlib.Omega.{arith}
 use native.Mathlib.Nat.{add-zero}
@@ -8,6 +8,7 @@ use native.Mathlib.Numerals.{add-one}
 use lib.ListN.{length, getD, take, drop, set, replicate, length-take, drop-of-length-le}
 use lib.Seq.{drop-cons, getD-take, length-take-le, take-suc-set}
 use Rattle.flat.specs.Flat.{Instruction, instruction}
+use Rattle.flat.specs.Instructions as flat
 use Rattle.translator.specs.Emit.{Emitted, emitted, reads, writes, upFrom, terms, merges}
 use Rattle.translator.specs.Writing.{Room, Written, Puts, Summed, onCells}
 use Rattle.translator.specs.declared.place.Place.{Place}
@@ -19,13 +20,13 @@ use Rattle.translator.proofs.Writing.{Going, first-room, go-on, one-mor
 pub writes-form : (a : ℕ) (rs : List ℕ) → writes a rs ≡ onCells 6 a rs
 unfolding onCells
 writes-form a [] = refl
-writes-form a (r ∷ rs) = ap {B = List Instruction} (λ is. instruction 6 a r 0 0 ∷ is) (writes-form (suc a) rs)
+writes-form a (r ∷ rs) = ap {B = List Instruction} (λ is. flat.write a r ∷ is) (writes-form (suc a) rs)
 
 pub reads-form : (a k n : ℕ) → k ≤ n → reads a k ≡ onCells 5 a (take k (replicate n 0))
 unfolding onCells
 reads-form a zero n h = refl
 reads-form a (suc k) zero h = absurd (omega arith)
-reads-form a (suc k) (suc n) h = ap {B = List Instruction} (λ is. instruction 5 a 0 0 0 ∷ is) (reads-form (suc a) k n (omega arith))
+reads-form a (suc k) (suc n) h = ap {B = List Instruction} (λ is. flat.read a ∷ is) (reads-form (suc a) k n (omega arith))
 
 module _ (k a i n : ℕ) (xs : List ℕ) (inside : i < n) (few : n ≤ 32) (long : length xs ≡ 32) where
   cell-first : onCells k a (drop i (take n xs)) ≡ (instruction k a (getD xs i 0) 0 0 ∷ []) ++ onCells k (a + 1) (drop (i + 1) (take n xs))
@@ -51,19 +52,19 @@ cells-done k a i n xs g h =
     rw (drop-of-length-le (take n xs) l) at g
 
 module _ (b acc at v : ℕ) (xs : List ℕ) (value : v ≡ getD xs at 0) {e : Emitted} {p q : Place} {c c₁ : List ℕ} where
-  pub term-room : (k : ℕ) → Going e p c q c₁ [] (terms k b acc at xs (q .next)) → 0 < k → Room (instruction 3 1 acc v 0 ∷ []) q c₁
+  pub term-room : (k : ℕ) → Going e p c q c₁ [] (terms k b acc at xs (q .next)) → 0 < k → Room (flat.addition acc v ∷ []) q c₁
   term-room zero g h = absurd (omega arith)
-  term-room (suc k) g h = rw value (first-room (instruction 3 1 acc (getD xs at 0) 0 ∷ []) (terms k b (q .next) (at + b) xs (suc (q .next)) .code) g)
+  term-room (suc k) g h = rw value (first-room (flat.addition acc (getD xs at 0) ∷ []) (terms k b (q .next) (at + b) xs (suc (q .next)) .code) g)
 
-  pub term-next : {s : Place} {c₂ : List ℕ} (k : ℕ) → Going e p c q c₁ [] (terms k b acc at xs (q .next)) → 0 < k → Written (instruction 3 1 acc v 0 ∷ []) q c₁ s c₂
+  pub term-next : {s : Place} {c₂ : List ℕ} (k : ℕ) → Going e p c q c₁ [] (terms k b acc at xs (q .next)) → 0 < k → Written (flat.addition acc v ∷ []) q c₁ s c₂
       → Going e p c s c₂ [] (terms (k - 1) b (q .next) (at + b) xs (s .next))
   term-next zero g h w = absurd (omega arith)
   term-next {s} {c₂} (suc k) g h w =
       let z : suc k - 1 ≡ k = omega arith in
       let n : s .next ≡ suc (q .next) = omega (arith, w .next) in
-      let w′ : Written (instruction 3 1 acc (getD xs at 0) 0 ∷ []) q c₁ s c₂ = subst (λ (x : ℕ). Written (instruction 3 1 acc x 0 ∷ []) q c₁ s c₂) value w in
+      let w′ : Written (flat.addition acc (getD xs at 0) ∷ []) q c₁ s c₂ = subst (λ (x : ℕ). Written (flat.addition acc x ∷ []) q c₁ s c₂) value w in
       subst₂ (λ (j m : ℕ). Going e p c s c₂ [] (terms j b (q .next) (at + b) xs m)) (sym z) (sym n)
-      (go-on (instruction 3 1 acc (getD xs at 0) 0 ∷ []) (terms k b (q .next) (at + b) xs (suc (q .next)) .code) g w′)
+      (go-on (flat.addition acc (getD xs at 0) ∷ []) (terms k b (q .next) (at + b) xs (suc (q .next)) .code) g w′)
 
 pub terms-done : {p q : Place} {c c₁ : List ℕ} (left register at : ℕ) (xs : List ℕ) (b : ℕ) {e : Emitted} → Going e p c q c₁ [] (terms left b register at xs (q .next)) → left ≡ 0
     → Going e p c q c₁ [] (emitted [] (register ∷ []))

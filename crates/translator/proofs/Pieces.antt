@@ -2,32 +2,24 @@
 use Prim.Native.Nat.{ℕ, zero, suc, _+_}
 use mathlib.Core.Path.{_≡_, refl, ap, _∙_}
 use mathlib.Core.Bool.{Bool, true, false}
-use mathlib.Core.List.{List, [], _∷_, _++_, append-assoc, append-nil}
+use mathlib.Core.List.{List, [], _∷_, _++_, append-nil}
 use native.Mathlib.Omega.{arith}
-use lib.ListN.{length, getD, set, replicate, length-append}
+use lib.ListN.{length, getD, set, length-append}
 use Rattle.word.specs.Choice.{pick}
 use Rattle.word.specs.Operation.{demand}
+use Rattle.word.specs.Tick.{zeros}
 use Rattle.cells.specs.Cells.{part, store}
-use Rattle.flat.specs.Flat.{worked, Instruction, instruction, Machine, machine, acted, execute, execute1}
+use Rattle.flat.specs.Flat.{worked, Instruction, Machine, machine, effect, acted, execute, execute1}
+use Rattle.flat.specs.Instructions as flat
+use Rattle.flat.proofs.Effects.{read-works, write-works, skip-works, execute-none, execute-first, execute-append, execute-all-skipped}
 use Rattle.translator.specs.Emit.{reads, writes, upFrom}
-use Rattle.translator.proofs.Registers.{Holds, Reads, Kept, kept-length, kept-reads, kept-one, kept-trans, kept-count, kept-holds, both-append, holds-last}
+use Rattle.translator.proofs.Registers.{Holds, Reads, Kept, kept-length, kept-reads, kept-one, kept-trans, kept-count, kept-holds, both-append, reads-last}
 use Rattle.translator.proofs.Registers.Both.{none, more}
 
 module _ (controls : List ℕ) where
-  pub execute-append : (is js : List Instruction) (m : Machine) → execute controls (is ++ js) m ≡ execute controls js (execute controls is m)
-  unfolding execute worked
-  execute-append [] js m = refl
-  execute-append (i ∷ is) js m = execute-append is js (execute1 controls i m)
-
-  -- a skip over exactly these instructions
-  pub execute-skip : (is : List Instruction) (ρ cs : List ℕ) → execute controls is (machine ρ (length is) cs) ≡ machine (ρ ++ replicate (length is) 0) 0 cs
-  unfolding execute worked
-  execute-skip [] ρ cs = rw append-nil
-  execute-skip (i ∷ is) ρ cs = execute-skip is (ρ ++ (0 ∷ [])) cs ∙ rw append-assoc
-
   -- each instruction appends one register
   pub execute-keeps : (is : List Instruction) (m : Machine) → Kept (m .registers) ((execute controls is m) .registers) (length is)
-  unfolding execute worked
+  unfolding execute
   execute-keeps [] m = record { fresh = []; whole = rw append-nil; count = refl }
   execute-keeps (i ∷ is) m =
       kept-count (omega arith) (kept-trans (kept-one (m .registers) ((acted controls i (m .registers) (m .skip) (m .cells)) .value)) (execute-keeps is (execute1 controls i m)))
@@ -42,13 +34,21 @@ module _ (controls : List ℕ) where
   does-kept {is} {rs} {ρ} {cs} d = rw (d .run) at (execute-keeps is (machine ρ 0 cs))
 
   pub nothing : {rs ρ cs ys : List ℕ} → Reads ρ rs ys → Does [] rs ρ cs ys cs
-  unfolding execute worked
-  nothing {ρ} r = record { after = ρ; run = refl; gives = r }
+  nothing {ρ} {cs} r = record { after = ρ; run = execute-none controls (machine ρ 0 cs); gives = r }
+
+  -- one instruction that skips nothing, and then a piece
+  pub first-does : {x : Instruction} {is : List Instruction} {rs ρ cs ys cs′ cs″ : List ℕ} {v : ℕ} → worked controls x ρ cs ≡ effect v 0 cs′
+      → Does is rs (ρ ++ (v ∷ [])) cs′ ys cs″ → Does (x ∷ is) rs ρ cs ys cs″
+  first-does {x} {is} {ρ = ρ} {cs} {cs′ = cs′} {v = v} e d = record { after = d .after; run = execute-first controls x is ρ cs cs′ v 0 e ∙ d .run; gives = d .gives }
+
+  -- one instruction, whose register is the result
+  pub one-does : {x : Instruction} {ρ cs cs′ : List ℕ} {v n : ℕ} → length ρ ≡ n → worked controls x ρ cs ≡ effect v 0 cs′ → Does (x ∷ []) (n ∷ []) ρ cs (v ∷ []) cs′
+  one-does {ρ = ρ} {v = v} {n} e w = first-does w (nothing (reads-last ρ v n e))
 
   -- a piece from where another ended
   resume : (is : List Instruction) {js : List Instruction} {rs ρ cs zs cs″ : List ℕ} (m : Machine) → execute controls is m ≡ machine ρ 0 cs → (d : Does js rs ρ cs zs cs″)
       → execute controls (is ++ js) m ≡ machine (d .after) 0 cs″
-  resume is {js} m e d = execute-append is js m ∙ ap (execute controls js) e ∙ d .run
+  resume is {js} m e d = execute-append controls is js m ∙ ap (execute controls js) e ∙ d .run
 
   -- one piece and then another
   pub andThen : {is js : List Instruction} {rs ss ρ cs ys zs cs′ cs″ : List ℕ} → Does is rs ρ cs ys cs′
@@ -66,20 +66,17 @@ module _ (controls : List ℕ) where
 
   -- reads of k cells
   pub reads-do : (k a n : ℕ) (ρ cs : List ℕ) → length ρ ≡ n → Does (reads a k) (upFrom n k) ρ cs (part a k cs) cs
-  unfolding execute worked
   reads-do zero a n ρ cs e = nothing none
   reads-do (suc k) a n ρ cs e =
       let v : ℕ = getD cs a 0 in
       let d = reads-do k (suc a) (suc n) (ρ ++ (v ∷ [])) cs (omega (arith, length-append ρ (v ∷ []))) in
-      record { after = d .after; run = d .run; gives = more (kept-holds (does-kept d) n v (holds-last ρ v n e)) (d .gives) }
+      first-does (read-works controls ρ cs a) (besides (reads-last ρ v n e) d)
 
   -- writes of registers
   writes-from : {ρ₀ : List ℕ} (a k : ℕ) {rs vs : List ℕ} (ρ cs : List ℕ) → Kept ρ₀ ρ k → Reads ρ₀ rs vs → Does (writes a rs) [] ρ cs [] (store a vs cs)
-  unfolding execute worked
   writes-from a k ρ cs g none = nothing none
-  writes-from a k ρ cs g (more {x = r} {y = v} {xs = rs} h b) =
-      let d = writes-from (suc a) (k + 1) (ρ ++ (0 ∷ [])) (set cs a v) (kept-trans g (kept-one ρ 0)) b in
-      record { after = d .after; run = ap (λ (w : ℕ). execute controls (writes (suc a) rs) (machine (ρ ++ (0 ∷ [])) 0 (set cs a w))) ((kept-holds g r v h) .value) ∙ d .run; gives = none }
+  writes-from a k ρ cs g (more {x = r} {y = v} h b) =
+      first-does (write-works controls ρ cs a r (kept-holds g r v h .value)) (writes-from (suc a) (k + 1) (ρ ++ (0 ∷ [])) (set cs a v) (kept-trans g (kept-one ρ 0)) b)
 
   pub writes-do : (a : ℕ) {rs vs : List ℕ} (ρ cs : List ℕ) → Reads ρ rs vs → Does (writes a rs) [] ρ cs [] (store a vs cs)
   writes-do a ρ cs b = writes-from a 0 ρ cs (record { fresh = []; whole = rw append-nil; count = refl }) b
@@ -88,22 +85,23 @@ module _ (controls : List ℕ) where
   gated : (d : Bool) {body : List Instruction} {ρ cs cs′ : List ℕ} → Does body [] ρ cs [] cs′
       → (after : List ℕ) × (execute controls body (machine ρ (pick d 0 (length body)) cs) ≡ machine after 0 (pick d cs′ cs))
   gated true d = (d .after, d .run)
-  gated false {body} {ρ} {cs} d = (ρ ++ replicate (length body) 0, execute-skip body ρ cs)
+  gated false {body} {ρ} {cs} d = (ρ ++ zeros (length body), execute-all-skipped controls body ρ cs)
 
   skipped : (r v : ℕ) (body : List Instruction) {js : List Instruction} {rs ρ cs ρ′ cs₁ ys cs″ : List ℕ} → Holds ρ r v
       → execute controls body (machine (ρ ++ (0 ∷ [])) (pick (demand v) 0 (length body)) cs) ≡ machine ρ′ 0 cs₁ → Does js rs ρ′ cs₁ ys cs″
-      → Does (instruction 7 r (length body) 0 0 ∷ (body ++ js)) rs ρ cs ys cs″
-  unfolding execute worked
-  skipped r v body {js} {ρ} {cs} h e o = record {
-    after = o .after;
-    run = ap (λ (x : ℕ). execute controls (body ++ js) (machine (ρ ++ (0 ∷ [])) (pick (demand x) 0 (length body)) cs)) (h .value) ∙ resume body _ e o;
-    gives = o .gives;
-  }
+      → Does (flat.skip r (length body) ∷ (body ++ js)) rs ρ cs ys cs″
+  skipped r v body {js} {ρ = ρ} {cs} h e o =
+      let s : ℕ = pick (demand v) 0 (length body) in
+      record {
+        after = o .after;
+        run = execute-first controls (flat.skip r (length body)) (body ++ js) ρ cs cs 0 s (skip-works controls ρ cs r (length body) (h .value)) ∙ resume body (machine (ρ ++ (0 ∷ [])) s cs) e o;
+        gives = o .gives;
+      }
 
   pub skip-do : {r v : ℕ} {body js : List Instruction} {rs ρ cs ys cs′ cs″ : List ℕ} → Holds ρ r v → Does body [] (ρ ++ (0 ∷ [])) cs [] cs′
       → ((ρ′ : List ℕ) → length ρ′ ≡ length ρ + 1 + length body → Does js rs ρ′ (pick (demand v) cs′ cs) ys cs″)
-      → Does (instruction 7 r (length body) 0 0 ∷ (body ++ js)) rs ρ cs ys cs″
-  skip-do {r} {v} {body} {ρ} {cs} h d k =
+      → Does (flat.skip r (length body) ∷ (body ++ js)) rs ρ cs ys cs″
+  skip-do {r} {v} {body} {ρ = ρ} {cs} h d k =
       let (ρ′, e) = gated (demand v) d in
       let g : Kept (ρ ++ (0 ∷ [])) ρ′ (length body) = rw e at (execute-keeps body (machine (ρ ++ (0 ∷ [])) (pick (demand v) 0 (length body)) cs)) in
       skipped r v body h e (k ρ′ (omega (arith, kept-length g, length-append ρ (0 ∷ []))))

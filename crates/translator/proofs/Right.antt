@@ -1,44 +1,41 @@
 -- The translation is right: the code of a circuit does what a tick of the walker does.
 use Prim.Native.Nat.{ℕ, zero, suc, _+_, _-_, _*_, _/_, _≤_, _<_}
-use mathlib.Core.Path.{_≡_, refl, sym, ap₂, _∙_}
+use mathlib.Core.Path.{_≡_, sym, _∙_}
 use mathlib.Core.Bool.{Bool, true, false}
 use mathlib.Core.List.{List, [], _∷_, _++_}
 use native.Mathlib.Omega.{arith}
-use lib.ListN.{length, getD, drop, take, length-append, length-drop, List·getD-eq-default}
+use lib.ListN.{length, getD, drop, take, length-append, length-drop}
 use lib.Seq.{length-take-le}
-use lib.Dec.{eqb, leb}
+use lib.Dec.{leb}
 use Rattle.word.proofs.OperandCounts.{operands-form}
 use Rattle.word.specs.Choice.{pick}
-use Rattle.word.specs.Operation.{operate, add, operands}
+use Rattle.word.specs.Operation.{add, operands}
 use Rattle.word.specs.Tick.{tick, tailOf}
 use Rattle.word.proofs.Lists.{length-tail}
 use Rattle.cells.specs.Cells.{part}
-use Rattle.cells.specs.Delay.{moved, delayed}
 use Rattle.cells.proofs.Parts.{part-length}
 use Rattle.arity.specs.Tree.{Tree, ins, outs}
 use Rattle.arity.specs.Tree.Tree.{leaf, join, ondemand}
 use Rattle.arity.specs.Tree.Primitive.{number, control, operation, delay, cable, cut}
 use Rattle.arity.specs.Tree.Composition.{sequence, parallel, split, merge, recursion}
-use Rattle.arity.specs.WellFormed.{WellFormed}
+use Rattle.arity.specs.WellFormed.{Known, WellFormed}
 use Rattle.arity.proofs.Times.{times-whole, times-least}
 use Rattle.signal.specs.Signal.{fill, sums, sumFrom, sumsFrom}
 use Rattle.calls.specs.Step.{step}
 use Rattle.calls.proofs.Widths.{step-outs, length-fill, length-sums}
-use Rattle.flat.specs.Flat.{worked, machine, execute}
+use Rattle.flat.proofs.Effects.{number-works, control-works, operation-works, addition-works, delay-works}
 use Rattle.translator.specs.Emit.{writes, upFrom, terms, merges, emit}
-use Rattle.translator.proofs.Registers.{Holds, Reads, kept-length, kept-reads, kept-one, both-append, both-take, both-drop, both-tail, both-copies, both-at, both-head, holds-last, reads-last}
+use Rattle.translator.proofs.Registers.{Holds, Reads, kept-length, kept-reads, kept-one, both-append, both-take, both-drop, both-tail, both-copies, both-at, both-head, holds-last}
 use Rattle.translator.proofs.Registers.Both.{none, more}
-use Rattle.translator.proofs.Pieces.{skip-do, Does, nothing, andThen, besides, still, reads-do, writes-do, length-reads}
+use Rattle.translator.proofs.Pieces.{skip-do, Does, nothing, first-does, one-does, andThen, besides, still, reads-do, writes-do, length-reads}
 
--- the operands of an operation
-first-operand : (two : Bool) {ρ xs vs : List ℕ} → length vs ≡ pick two 2 1 → Reads ρ xs vs → getD ρ (getD xs 0 0) 0 ≡ getD vs 0 0
-first-operand true e r = (both-at 0 (omega arith) r) .value
-first-operand false e r = (both-at 0 (omega arith) r) .value
-
-second-operand : (two : Bool) {ρ xs vs : List ℕ} → length vs ≡ pick two 2 1 → Reads ρ xs vs
-    → pick (eqb (pick two 2 1) 2) (getD ρ (pick (eqb (pick two 2 1) 2) (getD xs 1 0) 0) 0) 0 ≡ getD vs 1 0
-second-operand true e r = (both-at 1 (omega arith) r) .value
-second-operand false {vs} e r = sym (List·getD-eq-default vs 0 (omega arith))
+-- an operation that is known has an input
+pub known-operands : (o : ℕ) → Known (operation o) → 0 < operands o
+known-operands o w = rw (operands-form o (w .0) (w .1)) (some (leb o 7))
+  where
+    some : (two : Bool) → 0 < pick two 2 1
+    some true = omega arith
+    some false = omega arith
 
 -- a quotient with no remainder
 pub whole : (q m b : ℕ) → q * b ≡ m → b ≤ m → suc (q - 1) * b ≡ m
@@ -48,18 +45,12 @@ whole (suc q) m b e h = let z : suc q - 1 ≡ q = omega arith in rw z e
 module _ (controls : List ℕ) where
   terms-do : (k b acc at n a : ℕ) {xs vs : List ℕ} (ρ cs : List ℕ) → length ρ ≡ n → Holds ρ acc a → at + k * b < length vs + b → Reads ρ xs vs
       → Does controls ((terms k b acc at xs n) .code) ((terms k b acc at xs n) .results) ρ cs (sumFrom k b a at vs ∷ []) cs
-  unfolding execute worked operate operands
   terms-do zero b acc at n a ρ cs e h l r = nothing controls (more h none)
   terms-do (suc k) b acc at n a {xs} {vs} ρ cs e h l r =
-      let v : ℕ = getD vs at 0 in
-      let s : ℕ = add a v in
+      let s : ℕ = add a (getD vs at 0) in
       let i : at < length vs = omega arith in
-      let d = terms-do k b n (at + b) (suc n) s (ρ ++ (s ∷ [])) cs (omega (arith, length-append ρ (s ∷ []))) (holds-last ρ s n e) (omega arith) (kept-reads (kept-one ρ s) r) in
-      record {
-        after = d .after;
-        run = ap₂ (λ (x y : ℕ). execute controls ((terms k b n (at + b) xs (suc n)) .code) (machine (ρ ++ (add x y ∷ [])) 0 cs)) (h .value) ((both-at at i r) .value) ∙ d .run;
-        gives = d .gives;
-      }
+      first-does controls (addition-works controls ρ cs acc (getD xs at 0) (h .value) (both-at at i r .value))
+      (terms-do k b n (at + b) (suc n) s (ρ ++ (s ∷ [])) cs (omega (arith, length-append ρ (s ∷ []))) (holds-last ρ s n e) (omega arith) (kept-reads (kept-one ρ s) r))
 
   merges-do : (m k b i n : ℕ) {xs vs : List ℕ} (ρ cs : List ℕ) → length ρ ≡ n → m + i ≤ b → suc k * b ≡ length vs → Reads ρ xs vs
       → Does controls ((merges m k b i xs n) .code) ((merges m k b i xs n) .results) ρ cs (sumsFrom m k b i vs) cs
@@ -78,25 +69,13 @@ module _ (base : ℕ → ℕ) (controls : List ℕ) where
 
   pub right : (t : Tree) (xs vs : List ℕ) (n : ℕ) (ρ cs : List ℕ) → WellFormed t → length ρ ≡ n → length vs ≡ ins t → Reads ρ xs vs
       → Right t xs vs n ρ cs
-  unfolding emit step execute worked WellFormed
-  right (leaf i (number v)) xs vs n ρ cs w e k r = record { after = ρ ++ (v ∷ []); run = refl; gives = reads-last ρ v n e }
-  right (leaf i (control s)) xs vs n ρ cs w e k r =
-      record { after = ρ ++ (getD controls s 0 ∷ []); run = refl; gives = reads-last ρ (getD controls s 0) n e }
+  unfolding emit step WellFormed
+  right (leaf i (number v)) xs vs n ρ cs w e k r = one-does controls e (number-works controls ρ cs v)
+  right (leaf i (control s)) xs vs n ρ cs w e k r = one-does controls e (control-works controls ρ cs s)
   right (leaf i (operation o)) xs vs n ρ cs w e k r =
-      let v : ℕ = operate o (getD vs 0 0) (getD vs 1 0) in
-      let f : operands o ≡ pick (leb o 7) 2 1 = operands-form o (w .0) (w .1) in
-      record {
-        after = ρ ++ (v ∷ []);
-        run = rw f (ap₂ (λ (x y : ℕ). machine (ρ ++ (operate o x y ∷ [])) 0 cs) (first-operand (leb o 7) (k ∙ f) r) (second-operand (leb o 7) (k ∙ f) r));
-        gives = reads-last ρ v n e;
-      }
-  right (leaf i (delay d)) xs vs n ρ cs w e k r =
-      let v : ℕ = delayed (base i) d (getD vs 0 0) (getD vs 1 0) cs in
-      record {
-        after = ρ ++ (v ∷ []);
-        run = ap₂ (λ (x y : ℕ). machine (ρ ++ (delayed (base i) d x y cs ∷ [])) 0 (moved (base i) d x cs)) ((both-at 0 (omega arith) r) .value) ((both-at 1 (omega arith) r) .value);
-        gives = reads-last ρ v n e;
-      }
+      let some : 0 < operands o = known-operands o w in
+      one-does controls e (operation-works controls ρ cs o (getD xs 0 0) (getD xs 1 0) (both-at 0 (omega arith) r .value) (λ two. both-at 1 (omega arith) r .value))
+  right (leaf i (delay d)) xs vs n ρ cs w e k r = one-does controls e (delay-works controls ρ cs (getD xs 0 0) (getD xs 1 0) (base i) d (both-at 0 (omega arith) r .value) (both-at 1 (omega arith) r .value))
   right (leaf i cable) xs vs n ρ cs w e k r = nothing controls (more (both-at 0 (omega arith) r) none)
   right (leaf i cut) xs vs n ρ cs w e k r = nothing controls none
   right (join i sequence l r) xs vs n ρ cs w e k b =

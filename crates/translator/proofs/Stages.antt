@@ -15,7 +15,8 @@ use Rattle.arity.specs.Promise.{Node}
 use Rattle.calls.specs.Wiring.{firstSide, secondSide}
 use Rattle.walker.specs.Ready.{base, Joins, Demands, joining, leftTree, rightTree, firstChild, secondChild, insOf, outsOf}
 use Rattle.walker.proofs.Joining.{first-tree, second-tree}
-use Rattle.flat.specs.Flat.{Instruction, instruction}
+use Rattle.flat.specs.Flat.{Instruction}
+use Rattle.flat.specs.Instructions as flat
 use Rattle.translator.specs.Emit.{Emitted, emitted, emit, reads, writes, upFrom}
 use Rattle.translator.specs.Writing.{Room, follow}
 use Rattle.translator.specs.Parts.{opening, middle, closing, skipping, holding, emission, openingOf, middleOf, closingOf, skippingOf, holdingOf, Emits, Opens, Links, Closes, Skips, Holds, Translatable}
@@ -64,7 +65,7 @@ emit-ondemand base i b xs n w =
     length-append (a .code) o ∙ ap₂ _+_ (emit-need base b (tailOf xs) (n + 1) w) (length-writes (base i) (a .results) ∙ emit-outs base b (tailOf xs) (n + 1) w) in
     let behind : n + 1 + length (a .code ++ o) ≡ n + 1 + length (a .code) + length (a .results) = omega (arith, length-append (a .code) o, length-writes (base i) (a .results)) in
     ap₂ {C = Emitted} (λ is k. emitted is (upFrom k (outs b)))
-    (ap₂ {C = List Instruction} (λ k is. instruction 7 (headOr 0 xs) k 0 0 ∷ is) over (append-assoc (a .code) o (reads (base i) (outs b)))) behind
+    (ap₂ {C = List Instruction} (λ k is. flat.skip (headOr 0 xs) k ∷ is) over (append-assoc (a .code) o (reads (base i) (outs b)))) behind
 
 -- The stages of a composition: what is still to be written after its opening, its first side, its middle and its second side.
 module _ (table : List ℕ) (i : ℕ) (p : Progress) where

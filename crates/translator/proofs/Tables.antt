@@ -1,18 +1,18 @@
 -- The complete result of a translation: the instructions of the whole circuit, refusal by refusal, and what the check's answer makes of it.
 use Prim.Native.Nat.{ℕ, _+_, _-_, _*_, _≤_, _<_}
-use mathlib.Core.Path.{_≡_, refl, sym, ap, ap₂, subst, _∙_}
+use mathlib.Core.Path.{_≡_, sym, ap, ap₂, _∙_}
 use mathlib.Core.List.{List, [], _∷_, _++_}
 use native.Mathlib.Nat.{zero-add}
 use native.Mathlib.Omega.{arith}
 use borrow.Author.Tests.{le-leb, lt-leb}
 use lib.Dec.{leb}
-use lib.ListN.{length, take, drop, length-append}
+use lib.ListN.{length, take, drop}
 use lib.Seq.{length-sets, sets-eq}
 use Rattle.word.specs.Choice.{pick}
 use Rattle.refusal.specs.Answer.{Answer, count, refusedAll}
 use Rattle.refusal.specs.declared.Refusal.{Refusal}
 use Rattle.cells.specs.Cells.{store}
-use Rattle.arity.specs.Tree.{Tree, ins, outs, need}
+use Rattle.arity.specs.Tree.{ins, outs, need}
 use Rattle.arity.specs.Table.{nodes, circuit}
 use Rattle.arity.specs.Checked.{Checked, answerOf as checkOf}
 use Rattle.arity.specs.Survey.{surveyed}
@@ -23,17 +23,18 @@ use Rattle.arity.proofs.Promise.{promise, rows}
 use Rattle.walker.specs.Ready.{base, Inside}
 use Rattle.flat.specs.Flat.{width}
 use Rattle.flat.specs.Code.{numbers, encode, header, resultsAt}
-use Rattle.flat.proofs.Encoding.{numbers-length, encode-length}
+use Rattle.flat.proofs.Encoding.{numbers-length}
 use Rattle.translator.specs.Emit.{Emitted, emit, upFrom}
 use Rattle.translator.specs.Translated.{translation, translated}
 use Rattle.translator.specs.Writing.{Room}
 use Rattle.translator.specs.Parts.{emission, Emits, Translatable}
-use Rattle.refusal.specs.Outcome.{Outcome, outcome}
+use Rattle.refusal.specs.Outcome.{outcome}
 use Rattle.translator.specs.Translate.{answerOf, numbersOf, translates, translatedBy, translatedTable, Translates, Counted, Headed}
 use Rattle.translator.specs.declared.TranslateAnswer.{TranslateAnswer}
 use Rattle.translator.specs.declared.TranslateAnswer.the-variants as Answers
 use Rattle.translator.specs.declared.place.Progress.{Progress}
 use Rattle.translator.proofs.Count.{emit-outs, emit-need}
+use Rattle.translator.proofs.Checked.{encoded-length}
 use Rattle.translator.proofs.Writing.{sets-append}
 
 -- the translation of the whole circuit
@@ -62,8 +63,8 @@ module _ {table shape : List ℕ} (t : Translatable table shape) where
   translated-is = rw (whole-need, whole-outs)
 
   translated-length : length (translated table) ≡ numbersOf table
-  translated-length =
-      ap length translated-is ∙ omega (arith, length-append (numbers (whole table .code)) (whole table .results), numbers-length (whole table .code), whole-need, whole-outs)
+  unfolding translated
+  translated-length = encoded-length (nodes table) (circuit table) (root .wellFormed)
 
 module _ {table shape : List ℕ} {n m : ℕ} {c : List ℕ} (h : Headed table shape n m c) where
   t : Translatable table shape

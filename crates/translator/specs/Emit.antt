@@ -2,16 +2,14 @@
 use Prim.Native.Nat.{ℕ, zero, suc, _+_, _-_, _/_}
 use mathlib.Core.List.{List, [], _∷_, _++_}
 use lib.ListN.{length, getD, drop, take}
-use lib.Dec.{eqb}
-use Rattle.word.specs.Choice.{pick}
-use Rattle.word.specs.Operation.{operands}
 use Rattle.word.specs.Tick.{headOr, tailOf}
 use Rattle.arity.specs.Tree.{Tree, ins, outs}
 use Rattle.arity.specs.Tree.Tree.{leaf, join, ondemand}
 use Rattle.arity.specs.Tree.Primitive.{number, control, operation, delay, cable, cut}
 use Rattle.arity.specs.Tree.Composition.{sequence, parallel, split, merge, recursion}
 use Rattle.signal.specs.Signal.{fill}
-use Rattle.flat.specs.Flat.{Instruction, instruction}
+use Rattle.flat.specs.Flat.{Instruction}
+use Rattle.flat.specs.Instructions as flat
 
 -- instructions, and the registers of the outputs
 pub record Emitted : Type 0 where
@@ -30,18 +28,18 @@ upFrom n (suc k) = n ∷ upFrom (suc n) k
 
 abbrev pub reads : ℕ → ℕ → List Instruction
 reads cell zero = []
-reads cell (suc k) = instruction 5 cell 0 0 0 ∷ reads (suc cell) k
+reads cell (suc k) = flat.read cell ∷ reads (suc cell) k
 
 abbrev pub writes : ℕ → List ℕ → List Instruction
 writes cell [] = []
-writes cell (r ∷ rs) = instruction 6 cell r 0 0 ∷ writes (suc cell) rs
+writes cell (r ∷ rs) = flat.write cell r ∷ writes (suc cell) rs
 
 -- k more terms of one output of a merge: acc + term, from register `at` on, b apart
 abbrev pub terms : ℕ → ℕ → ℕ → ℕ → List ℕ → ℕ → Emitted
 terms zero b acc at xs next = emitted [] (acc ∷ [])
 terms (suc k) b acc at xs next =
     let rest = terms k b next (at + b) xs (suc next) in
-    emitted (instruction 3 1 acc (getD xs at 0) 0 ∷ rest .code) (rest .results)
+    emitted (flat.addition acc (getD xs at 0) ∷ rest .code) (rest .results)
 
 -- outputs i .. of a merge onto b
 abbrev pub merges : ℕ → ℕ → ℕ → ℕ → List ℕ → ℕ → Emitted
@@ -54,10 +52,10 @@ merges (suc n) k b i xs next =
 -- the translation of a tree whose inputs are the registers xs, the next register being n; base i is the first cell of node i
 unfoldable pub emit : (ℕ → ℕ) → Tree → List ℕ → ℕ → Emitted
 unfolding ins outs
-emit base (leaf i (number v)) xs n = single (instruction 1 v 0 0 0) n
-emit base (leaf i (control s)) xs n = single (instruction 2 s 0 0 0) n
-emit base (leaf i (operation o)) xs n = single (instruction 3 o (getD xs 0 0) (pick (eqb (operands o) 2) (getD xs 1 0) 0) 0) n
-emit base (leaf i (delay d)) xs n = single (instruction 4 (getD xs 0 0) (getD xs 1 0) (base i) d) n
+emit base (leaf i (number v)) xs n = single (flat.number v) n
+emit base (leaf i (control s)) xs n = single (flat.control s) n
+emit base (leaf i (operation o)) xs n = single (flat.operation o (getD xs 0 0) (getD xs 1 0)) n
+emit base (leaf i (delay d)) xs n = single (flat.delay (getD xs 0 0) (getD xs 1 0) (base i) d) n
 emit base (leaf i cable) xs n = emitted [] (getD xs 0 0 ∷ [])
 emit base (leaf i cut) xs n = emitted [] []
 emit base (join i sequence l r) xs n =
@@ -86,5 +84,5 @@ emit base (ondemand i b) xs n =
     let a = emit base b (tailOf xs) (n + 1) in
     let m = outs b in
     let body = a .code ++ writes (base i) (a .results) in
-    emitted (instruction 7 (headOr 0 xs) (length body) 0 0 ∷ (body ++ reads (base i) m))
+    emitted (flat.skip (headOr 0 xs) (length body) ∷ (body ++ reads (base i) m))
     (upFrom (n + 1 + length body) m)

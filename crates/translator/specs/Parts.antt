@@ -8,7 +8,8 @@ use Rattle.arity.specs.Tree.Composition.{sequence, parallel, split, merge, recu
 use Rattle.arity.specs.Table.{nodes, circuit, tree, firstAt}
 use Rattle.calls.specs.Wiring.{firstInputs, secondInputs, joinOutputs}
 use Rattle.walker.specs.Ready.{base, Ready, joining, leftTree, rightTree, firstChild, secondChild, insOf, outsOf}
-use Rattle.flat.specs.Flat.{Instruction, instruction}
+use Rattle.flat.specs.Flat.{Instruction}
+use Rattle.flat.specs.Instructions as flat
 use Rattle.translator.specs.Emit.{Emitted, emitted, emit, reads, writes, upFrom, merges}
 use Rattle.translator.specs.Writing.{Puts}
 use Rattle.translator.specs.declared.place.Progress.{Progress}
@@ -46,7 +47,7 @@ closing c a r ys zs = emitted (writesOf c a (ins r) zs) (joinOutputs c ys zs)
 
 -- "Ondemand: skip, body, writes inside the skip, then as many reads": what stands before the body b, and what behind it
 abbrev pub skipping : Tree → List ℕ → Emitted
-skipping b xs = emitted (instruction 7 (headOr 0 xs) (need b + outs b) 0 0 ∷ []) (tailOf xs)
+skipping b xs = emitted (flat.skip (headOr 0 xs) (need b + outs b) ∷ []) (tailOf xs)
 
 abbrev pub holding : (a m : ℕ) → List ℕ → ℕ → Emitted
 holding a m ys n = emitted (writes a ys ++ reads a m) (upFrom (n + length ys) m)

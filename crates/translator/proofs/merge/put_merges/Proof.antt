@@ -1,11 +1,10 @@
 -- `translator::merge::put_merges` meets its contract.
-use Prim.Native.Nat.{_+_, _-_, _/_, _≤_}
+use Prim.Native.Nat.{_-_, _≤_}
 use Rattle.translator.proofs.Loops.{sum-room, sum-next, sum-stored, sums-done, merge-none}
 use Rattle.translator.proofs.Writing.{Going, start, same-room}
 use Rattle.translator.specs.Emit.{merges}
 use borrow.Author.Needs.{needs}
 use lib.ListN.{length, take, length-set}
-use mathlib.Core.List.{[], _∷_}
 use mathlib.Core.Path.{_≡_, refl}
 use native.Mathlib.Nat.{div-le-self, le-div-iff-mul-le, one-mul, sub-zero}
 use native.Mathlib.Omega.{arith}

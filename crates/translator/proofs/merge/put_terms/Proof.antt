@@ -1,12 +1,12 @@
 -- `translator::merge::put_terms` meets its contract.
-use Prim.Native.Nat.{ℕ, _+_, _*_, _≤_}
+use Prim.Native.Nat.{_+_, _*_, _≤_}
 use Rattle.translator.proofs.Loops.{term-room, term-next, terms-done}
 use Rattle.translator.proofs.Writing.{Going, start, same-room, all-written}
 use Rattle.translator.specs.Emit.{terms}
 use borrow.Author.Needs.{needs}
-use lib.ListN.{length, take}
-use mathlib.Core.List.{[], _∷_}
-use mathlib.Core.Path.{_≡_, sym, subst}
+use lib.ListN.{take}
+use mathlib.Core.List.{[]}
+use mathlib.Core.Path.{sym}
 use native.Mathlib.Omega.{arith}
 use Rattle.translator.proofs.merge.put_terms.Statement.{statement}
 use Rattle.translator.proofs.merge.put_terms.Tie as tie

@@ -4,7 +4,7 @@ use Rattle.translator.proofs.Loops.{ascend-next}
 use Rattle.translator.specs.Emit.{upFrom}
 use borrow.Author.Needs.{needs}
 use lib.ListN.{length, take, length-set}
-use mathlib.Core.Path.{_≡_, refl, sym, subst}
+use mathlib.Core.Path.{_≡_, refl, subst}
 use native.Mathlib.Omega.{arith}
 use Rattle.translator.proofs.place.ascending.Statement.{statement}
 use Rattle.translator.proofs.place.ascending.Tie as tie

@@ -5,7 +5,7 @@ use Rattle.translator.proofs.Writing.{Going, start, same-room, all-writ
 use Rattle.translator.specs.Emit.{emitted}
 use Rattle.translator.specs.Writing.{onCells}
 use borrow.Author.Needs.{needs}
-use lib.ListN.{length, take, drop}
+use lib.ListN.{take, drop}
 use mathlib.Core.List.{[]}
 use mathlib.Core.Path.{_≡_}
 use native.Mathlib.Omega.{arith}

@@ -1,10 +1,6 @@
 -- `translator::place::put_reads` meets its contract.
-use Rattle.flat.specs.Flat.{Instruction}
 use Rattle.translator.proofs.Loops.{reads-form}
-use Rattle.translator.specs.Writing.{Room, Written}
 use borrow.Author.Needs.{needs}
-use mathlib.Core.List.{List}
-use mathlib.Core.Path.{_≡_, sym, subst}
 use Rattle.translator.proofs.place.put_reads.Statement.{statement}
 use Rattle.translator.proofs.place.put_reads.Tie as tie
 
