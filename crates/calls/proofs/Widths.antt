@@ -1,16 +1,15 @@
--- How many outputs a tick of the walker gives, and that the number of cells stays.
+-- How many outputs a tick of a circuit gives.
 use Prim.Native.Nat.{ℕ, _+_, zero, suc, _-_, _*_, _/_}
 use mathlib.Core.Path.{_≡_, refl, sym, ap, ap₂, _∙_}
-use mathlib.Core.Bool.{Bool, true, false}
 use mathlib.Core.List.{List, _++_}
 use native.Mathlib.Omega.{arith}
 use native.Mathlib.Nat.{zero-mul}
-use lib.ListN.{length, getD, drop, take, length-append, length-drop}
-use lib.Seq.{length-sets, length-take-le}
+use lib.ListN.{length, drop, take, length-append, length-drop}
+use lib.Seq.{length-take-le}
 use Rattle.word.specs.Choice.{pick}
 use Rattle.word.specs.Tick.{Tick, tick, tailOf}
 use Rattle.cells.specs.Cells.{part, store}
-use Rattle.cells.proofs.Parts.{part-length, length-moved}
+use Rattle.cells.proofs.Parts.{part-length}
 use Rattle.arity.specs.Tree.{Tree, ins, outs}
 use Rattle.arity.specs.Tree.Tree.{leaf, join, ondemand}
 use Rattle.arity.specs.Tree.Primitive.{number, control, operation, delay, cable, cut}
@@ -31,41 +30,6 @@ length-sums (suc n) k b i xs = ap suc (length-sums n k b (suc i) xs)
 -- a split fills its right side
 pub length-fill : (n b : ℕ) (xs : List ℕ) → n / b * b ≡ n → length xs ≡ b → length (fill n b xs) ≡ n
 length-fill n b xs w e = length-copies (n / b) xs ∙ rw e w
-
-held-cells : (d : Bool) (cs cs′ : List ℕ) → length cs′ ≡ length cs → length (pick d cs′ cs) ≡ length cs
-held-cells true cs cs′ e = e
-held-cells false cs cs′ e = refl
-
-pub step-cells : (base : ℕ → ℕ) (t : Tree) (f : Tick) (cs : List ℕ) → length ((step base t f cs) .cells) ≡ length cs
-unfolding step
-step-cells base (leaf i (number v)) f cs = refl
-step-cells base (leaf i (control s)) f cs = refl
-step-cells base (leaf i (operation o)) f cs = refl
-step-cells base (leaf i (delay d)) f cs = length-moved (base i) d (getD (f .inputs) 0 0) cs
-step-cells base (leaf i cable) f cs = refl
-step-cells base (leaf i cut) f cs = refl
-step-cells base (join i sequence l r) f cs =
-    let a = step base l f cs in
-    step-cells base r (tick (a .outputs) (f .controls)) (a .cells) ∙ step-cells base l f cs
-step-cells base (join i parallel l r) f cs =
-    let g = tick (take (ins l) (f .inputs)) (f .controls) in
-    step-cells base r (tick (drop (ins l) (f .inputs)) (f .controls)) ((step base l g cs) .cells) ∙ step-cells base l g cs
-step-cells base (join i split l r) f cs =
-    let a = step base l f cs in
-    step-cells base r (tick (fill (ins r) (outs l) (a .outputs)) (f .controls)) (a .cells) ∙ step-cells base l f cs
-step-cells base (join i merge l r) f cs =
-    let a = step base l f cs in
-    step-cells base r (tick (sums (outs l) (ins r) (a .outputs)) (f .controls)) (a .cells) ∙ step-cells base l f cs
-step-cells base (join i recursion l r) f cs =
-    let g = tick (part (base i) (ins r) cs) (f .controls) in
-    let a = step base r g cs in
-    let h = tick (a .outputs ++ f .inputs) (f .controls) in
-    let b = step base l h (a .cells) in
-    length-sets (b .cells) (base i) (take (ins r) (b .outputs)) ∙ step-cells base l h (a .cells) ∙ step-cells base r g cs
-step-cells base (ondemand i b) f cs =
-    let g = tick (tailOf (f .inputs)) (f .controls) in
-    let a = step base b g cs in
-    held-cells (demanded f) cs (store (base i) (a .outputs) (a .cells)) (length-sets (a .cells) (base i) (a .outputs) ∙ step-cells base b g cs)
 
 pub step-outs : (base : ℕ → ℕ) (t : Tree) (f : Tick) (cs : List ℕ) → WellFormed t → length (f .inputs) ≡ ins t → length ((step base t f cs) .outputs) ≡ outs t
 unfolding step WellFormed
