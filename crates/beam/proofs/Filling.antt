@@ -1,10 +1,10 @@
 -- An array that is filled place by place: after each store one more entry of a list stands in it.
-use Prim.Native.Nat.{ℕ, zero, suc, _+_, _≤_, _<_}
-use mathlib.Core.Path.{_≡_, refl, sym, ap, _∙_}
+use Prim.Native.Nat.{ℕ, suc, _+_, _≤_, _<_}
+use mathlib.Core.Path.{_≡_, sym, ap, _∙_}
 use mathlib.Core.List.{List, [], _∷_, _++_, append-assoc}
 use native.Mathlib.Omega.{arith}
 use native.Mathlib.Numerals.{add-one}
-use lib.ListN.{length, getD, set, take, drop}
+use lib.ListN.{length, getD, set, take, drop, drop-of-length-le}
 use lib.Seq.{take-suc, take-suc-set, drop-cons}
 use Rattle.cells.specs.Cells.{store}
 
@@ -34,12 +34,6 @@ store-next a i v ys cs h e =
     let z : a + (i + 1) ≡ suc (a + i) = omega arith in
     rw (z, add-one i, drop-cons ys i 0 h, e)
 
-drop-none : (n : ℕ) (ys : List ℕ) → length ys ≤ n → drop n ys ≡ []
-drop-none zero [] h = refl
-drop-none zero (y ∷ ys) h = absurd (omega arith)
-drop-none (suc n) [] h = refl
-drop-none (suc n) (y ∷ ys) h = drop-none n ys (omega arith)
-
 -- nothing is left to be stored
 pub store-done : (a n : ℕ) (ys cs : List ℕ) → length ys ≤ n → store a (drop n ys) cs ≡ cs
-store-done a n ys cs h = rw (drop-none n ys h)
+store-done a n ys cs h = rw (drop-of-length-le ys {i = n} h)

@@ -8,7 +8,6 @@ use lib.ListN.{length, length-set, getD, set, getD-replicate, take, drop, length
 use lib.Seq.{length-sets, getD-set-same, getD-set-other, ext-getD, sets-eq, getD-take, getD-drop, length-take-le}
 use Rattle.word.specs.Tick.{zeros}
 use Rattle.cells.specs.Cells.{part, store}
-use Rattle.cells.specs.Delay.{moved}
 
 -- k is one of the n cells from a on
 pub record Among (a n k : ℕ) : Type 0 where
@@ -49,10 +48,6 @@ part-store a (v ∷ vs) cs h =
 pub part-zeros : (a n k : ℕ) → a + n ≤ k → part a n (zeros k) ≡ zeros n
 part-zeros a zero k h = refl
 part-zeros a (suc n) k h = ap₂ {C = List ℕ} (λ x xs. x ∷ xs) (getD-replicate k a 0 0 (omega arith)) (part-zeros (suc a) n k (omega arith))
-
-pub length-moved : (a d x : ℕ) (cs : List ℕ) → length (moved a d x cs) ≡ length cs
-length-moved a zero x cs = refl
-length-moved a (suc d) x cs = simp length-set
 
 -- the n cells from a on hold ys, and the others what they held
 pub record Stored (a n : ℕ) (ys cs cs′ : List ℕ) : Type 0 where

@@ -15,7 +15,11 @@ pub numbers-length : (is : List Instruction) → length (numbers is) ≡ width *
 numbers-length [] = refl
 numbers-length (x ∷ is) = omega (arith, numbers-length is)
 
-pub instructions-back : (is : List Instruction) (rs : List ℕ) → instructionsOf (length is) (numbers is ++ rs) ≡ is
+pub numbers-append : (is js : List Instruction) → numbers (is ++ js) ≡ numbers is ++ numbers js
+numbers-append [] js = refl
+numbers-append (x ∷ is) js = ap {B = List ℕ} (λ l. x .code ∷ x .a ∷ x .b ∷ x .c ∷ x .d ∷ l) (numbers-append is js)
+
+instructions-back : (is : List Instruction) (rs : List ℕ) → instructionsOf (length is) (numbers is ++ rs) ≡ is
 instructions-back [] rs = refl
 instructions-back (x ∷ is) rs = ap {B = List Instruction} (λ xs. x ∷ xs) (instructions-back is rs)
 

@@ -40,11 +40,10 @@ largest-passes : (n : ℕ) (t : Tree) → WellFormed t → Complete n t → ins 
 largest-passes n t w c i o k d = translation-ok n t w c (omega arith) (omega arith) (omega arith) (omega arith)
 
 -- a buffer with no number to spare: nothing of its content is left
-module _ {table code code′ : List ℕ} (t : Translates table code (Numbers (length code)) code′) where
-  exact-whole : code′ ≡ translated table
-  exact-whole =
-      let d = is-delivered t (length code) refl in
-      d .is ∙ ap (λ l. translated table ++ l) (drop-of-length-le code {i = numbersOf table} (omega (arith, d .counted))) ∙ append-nil (translated table)
+exact-delivered : {table code code′ : List ℕ} → Translates table code (Numbers (length code)) code′ → code′ ≡ translated table
+exact-delivered {table} {code} t =
+    let d = is-delivered t (length code) refl in
+    d .is ∙ ap (λ l. translated table ++ l) (drop-of-length-le code {i = numbersOf table} (omega (arith, d .counted))) ∙ append-nil (translated table)
 
 -- the integrator and its code, as the document prints them
 abbrev integrator : List ℕ

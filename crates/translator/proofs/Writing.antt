@@ -9,7 +9,7 @@ use lib.Seq.{sets, length-sets}
 use Rattle.cells.specs.Cells.{store}
 use Rattle.flat.specs.Flat.{Instruction}
 use Rattle.flat.specs.Code.{numbers}
-use Rattle.flat.proofs.Encoding.{numbers-length}
+use Rattle.flat.proofs.Encoding.{numbers-length, numbers-append}
 use Rattle.translator.specs.Emit.{Emitted, emitted}
 use Rattle.translator.specs.Writing.{Room, Written, Puts, follow}
 use Rattle.translator.specs.declared.place.Place.{Place}
@@ -18,10 +18,6 @@ use Rattle.translator.specs.declared.place.Progress.{Progress}
 pub sets-append : (xs ys c : List ℕ) (a : ℕ) → sets (sets c a xs) (a + length xs) ys ≡ sets c a (xs ++ ys)
 sets-append [] ys c a = rw add-zero
 sets-append (x ∷ xs) ys c a = let e : a + suc (length xs) ≡ suc a + length xs = omega arith in rw e (sets-append xs ys (set c a x) (suc a))
-
-numbers-append : (is js : List Instruction) → numbers (is ++ js) ≡ numbers is ++ numbers js
-numbers-append [] js = refl
-numbers-append (x ∷ is) js = ap {B = List ℕ} (λ l. x .code ∷ x .a ∷ x .b ∷ x .c ∷ x .d ∷ l) (numbers-append is js)
 
 pub written-none : {p : Place} {c : List ℕ} → Written [] p c p c
 written-none {p} = record { code = refl; next = sym (add-zero (p .next)); at = sym (add-zero (p .at)) }

@@ -19,17 +19,21 @@ pub record Emitted : Type 0 where
 abbrev pub emitted : List Instruction → List ℕ → Emitted
 emitted is rs = record { code = is; results = rs }
 
+-- one instruction, whose own register n is the result
 abbrev pub single : Instruction → ℕ → Emitted
 single x n = emitted (x ∷ []) (n ∷ [])
 
+-- k registers from n on
 abbrev pub upFrom : ℕ → ℕ → List ℕ
 upFrom n zero = []
 upFrom n (suc k) = n ∷ upFrom (suc n) k
 
+-- a read of each of the k cells from `cell` on
 abbrev pub reads : ℕ → ℕ → List Instruction
 reads cell zero = []
 reads cell (suc k) = flat.read cell ∷ reads (suc cell) k
 
+-- writes of the registers into the cells from `cell` on
 abbrev pub writes : ℕ → List ℕ → List Instruction
 writes cell [] = []
 writes cell (r ∷ rs) = flat.write cell r ∷ writes (suc cell) rs

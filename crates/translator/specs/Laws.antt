@@ -20,8 +20,8 @@ use Rattle.translator.specs.declared.TranslateAnswer.{TranslateAnswer}
 
 -- from any cells, a tick of a circuit's code gives the outputs and leaves the cells of a tick of the circuit
 abbrev pub TickRight : Type 0
-TickRight = (n : ℕ) (t : Tree) (f : Tick) (cs : List ℕ) → WellFormed t → length (f .inputs) ≡ ins t
-    → codeTick (translation n t) f cs ≡ step (cellsBefore t) t f cs
+TickRight = (n : ℕ) (t : Tree) (f : Tick) (cells : List ℕ) → WellFormed t → length (f .inputs) ≡ ins t
+    → codeTick (translation n t) f cells ≡ step (cellsBefore t) t f cells
 
 -- the code of a circuit of n nodes that refusals 8, 10 and 11 let pass never gets refusal 13
 abbrev pub TranslationOk : Type 0

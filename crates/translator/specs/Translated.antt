@@ -14,6 +14,7 @@ translation n t =
     let e = emit (cellsBefore t) t (upFrom 0 (ins t)) (ins t) in
     record { inputs = ins t; cells = cellsBefore t n; instructions = e .code; results = e .results }
 
+-- the numbers of a table's code
 unfoldable pub translated : List ℕ → List ℕ
 unfolding translation encode
 translated table = encode (translation (nodes table) (circuit table))
