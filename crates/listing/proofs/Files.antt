@@ -14,7 +14,6 @@ use Rattle.column.specs.declared.ReadAnswer.{ReadAnswer}
 use Rattle.column.specs.declared.ReadAnswer.the-variants.{Nodes, Refused}
 use Rattle.column.specs.Answers.{readAnswer}
 use Rattle.refusal.specs.Outcome.{Outcome, outcome}
-use Rattle.column.specs.Checks.{_or_}
 use Rattle.column.specs.Line.{lines}
 use Rattle.column.specs.File.{fileRefusal, numbers, reading}
 use Rattle.column.proofs.Refusing.{read-counted}
