@@ -16,7 +16,7 @@ use Rattle.refusal.specs.Answer.{Answer, count, refusalOf, refusedAt, refusedAl
 use Rattle.column.specs.declared.ReadAnswer.{ReadAnswer}
 use Rattle.column.specs.declared.ReadAnswer.the-variants.{Nodes, Refused}
 use Rattle.column.specs.Answers.{readAnswer}
-use Rattle.column.specs.Promises.{Checked, refusalIn, firstLine}
+use Rattle.column.specs.Promises.{LinesChecked, refusalIn, firstLine}
 use Rattle.column.specs.Checks.{when, _or_}
 use Rattle.refusal.specs.Outcome.{outcome}
 use Rattle.column.specs.Line.{lines, whole, columnRefusal, lineRefusal, entries}
@@ -147,7 +147,7 @@ storing-ends file table₀ nodes table node h n l p =
     ap (λ (ls : List (List ℕ)). sets table (3 * node) (numbers ls)) (sym z) ∙ p .done ∙ sets-front (numbers (lines file)) table₀ (omega arith) ∙ rw k
 
 -- the whole call, by what the check of the lines answered
-module _ (file table : List ℕ) (a : ReadAnswer) (p : Checked file a) where
+module _ (file table : List ℕ) (a : ReadAnswer) (p : LinesChecked file a) where
   pub read-refused : (r : Refusal) → a ≡ Refused r → outcome (readAnswer a) table ≡ reading file table
   unfolding reading
   read-refused r e = let f : some (refusalOf r) ≡ fileRefusal file = ap refusalIn (sym e) ∙ p .refusal in rw (e, ← f)

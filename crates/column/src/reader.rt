@@ -9,7 +9,7 @@ ghost use Rattle.column.specs.Number.{numberIn, wordOf};
 ghost use Rattle.column.specs.Line.{columnOf, whole, lines, entries};
 ghost use Rattle.column.specs.File.{fileRefusal, numbers, reading};
 ghost use Rattle.column.specs.Answers.{readAnswer};
-ghost use Rattle.column.specs.Promises.{Checked, firstLine, found};
+ghost use Rattle.column.specs.Promises.{LinesChecked, firstLine, found};
 ghost use Rattle.refusal.specs.Outcome.{outcome};
 use crate::LINE_BYTES;
 use crate::MOST_LINES;
@@ -60,7 +60,7 @@ fn column_at(file: &[u8], at: usize, j: usize) -> Number
 
 // Checks line after line, and in a line column after column, up to the first that is wrong.
 fn check_lines(file: &[u8]) -> ReadAnswer
-    ensures { λ r. ⌜ Checked (now (file .entry)) r ⌝ }
+    ensures { λ r. ⌜ LinesChecked (now (file .entry)) r ⌝ }
 {
     if file.len() == 0 {
         return ReadAnswer::Refused(Refusal::WrongNodeCount(0));
