@@ -17,7 +17,7 @@ use Rattle.translator.specs.Translate.{Translates, answerOf as translateAnswer}
 use Rattle.walker.specs.declared.WalkAnswer.{WalkAnswer}
 use Rattle.walker.specs.Walk.{Walked, answerOf as walkAnswer}
 use Rattle.circuit.specs.Encoded.{encoded}
-use Rattle.circuit.specs.Report.{reportedBy, report}
+use Rattle.circuit.specs.Report.{reportedBy, reporting}
 use Rattle.circuit.specs.Calls.{ExportedCheck, ExportedTranslate, ExportedWalk}
 
 -- What encodes the case that an answer is encodes what the call answers; so for the result of each kind of call.
@@ -44,9 +44,9 @@ walks w e h =
 -- the check's report, by the case that its answer is
 module _ {table : List ℕ} {a : CheckAnswer} (k : Checked table a) (counts : List ℕ) where
   pub reports : {b : CheckAnswer} {n : ℕ} {counts′ : List ℕ} {x : Answer} → a ≡ b → outcome x counts′ ≡ reportedBy (answerOf b) counts → n ≡ encoded x → ExportedCheck table counts n counts′
-  unfolding report
+  unfolding reporting
   reports e f h =
-      let s : _ ≡ report (k .place) table counts =
+      let s : _ ≡ reporting (k .place) table counts =
       f ∙ sym (ap (λ (y : CheckAnswer). reportedBy (answerOf y) counts) e) ∙ ap (λ (y : Answer). reportedBy y counts) (k .answer) in
       record { place = k .place; isLoose = k .isLoose; answer = h ∙ ap (λ (l : Outcome). encoded (l .answer)) s; report-is = ap (λ (l : Outcome). l .buffer) s }
 
