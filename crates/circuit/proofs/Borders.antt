@@ -1,5 +1,5 @@
 -- The laws at their borders: a premise that asked for more, or a conclusion that said less, would fail here.
-use Prim.Native.Nat.{ℕ, _/_, _%_, _^_}
+use Prim.Native.Nat.{_/_, _%_, _^_}
 use mathlib.Core.Path.{_≡_}
 use lib.Dec.{lit<}
 use lib.IntN.{pos, negsuc}

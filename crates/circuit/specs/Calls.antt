@@ -6,24 +6,24 @@ use Rattle.arity.specs.Checked.{LoosePlace}
 use Rattle.walker.specs.Walk.{walkedTable}
 use Rattle.translator.specs.Translate.{translatedTable}
 use Rattle.circuit.specs.Encoded.{encoded}
-use Rattle.circuit.specs.Report.{report}
+use Rattle.circuit.specs.Report.{reporting}
 
 -- the check, with its report
-pub record Checks (table counts : List ℕ) (r : ℕ) (counts′ : List ℕ) : Type 0 where
+pub record ExportedCheck (table counts : List ℕ) (r : ℕ) (counts′ : List ℕ) : Type 0 where
   pub place : ℕ
   pub isLoose : LoosePlace table place
-  pub answer : r ≡ encoded (report place table counts .answer)
-  pub report-is : counts′ ≡ report place table counts .buffer
+  pub answer : r ≡ encoded (reporting place table counts .answer)
+  pub report-is : counts′ ≡ reporting place table counts .buffer
 
 -- the translator
-pub record Translates (table code : List ℕ) (r : ℕ) (code′ : List ℕ) : Type 0 where
+pub record ExportedTranslate (table code : List ℕ) (r : ℕ) (code′ : List ℕ) : Type 0 where
   pub place : ℕ
   pub isLoose : LoosePlace table place
   pub answer : r ≡ encoded (translatedTable place table code .answer)
   pub code-is : code′ ≡ translatedTable place table code .buffer
 
 -- the walker
-pub record Walks (table : List ℕ) (ticks : ℕ) (inputs controls cells outputs : List ℕ) (r : ℕ) (cells′ outputs′ : List ℕ) : Type 0 where
+pub record ExportedWalk (table : List ℕ) (ticks : ℕ) (inputs controls cells outputs : List ℕ) (r : ℕ) (cells′ outputs′ : List ℕ) : Type 0 where
   pub place : ℕ
   pub isLoose : LoosePlace table place
   pub answer : r ≡ encoded (walkedTable place table ticks inputs controls cells outputs .answer)

@@ -22,5 +22,5 @@ reportedBy (counts ks) buffer =
 reportedBy (refused r p) buffer = outcome (refused r p) buffer
 
 -- the complete result of a check; p is the place with refusal 9
-unfoldable pub report : ℕ → List ℕ → List ℕ → Outcome
-report p table = reportedBy (checked p table)
+unfoldable pub reporting : ℕ → List ℕ → List ℕ → Outcome
+reporting p table = reportedBy (checked p table)

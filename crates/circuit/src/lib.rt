@@ -14,7 +14,7 @@ ghost use Rattle.cells.specs.Load.{loaded};
 ghost use Rattle.column.specs.File.{reading, writing};
 ghost use Rattle.flat.specs.Run.{ran};
 ghost use Rattle.circuit.specs.Encoded.{encoded};
-ghost use Rattle.circuit.specs.Calls.{Checks, Translates, Walks};
+ghost use Rattle.circuit.specs.Calls.{ExportedCheck, ExportedTranslate, ExportedWalk};
 
 // The upper half of an answer begins here.
 const UPPER: u64 = 4294967296;
@@ -29,7 +29,7 @@ fn refused(refusal: Refusal) -> u64
 // The check: inputs, outputs, instructions and cells into the first four of counts.
 #[no_mangle]
 pub extern "C" fn circuit_check(table: &[u32], counts: &mut [u32]) -> u64
-    ensures { λ r. ⌜ Checks (now (table .entry)) (now (counts .entry)) r (now (counts .exit)) ⌝ }
+    ensures { λ r. ⌜ ExportedCheck (now (table .entry)) (now (counts .entry)) r (now (counts .exit)) ⌝ }
 {
     let answer = arity::check(table);
     match answer {
@@ -81,7 +81,7 @@ pub extern "C" fn circuit_write(table: &[u32], file: &mut [u8]) -> u64
 // The translator: a table into flat code.
 #[no_mangle]
 pub extern "C" fn circuit_translate(table: &[u32], code: &mut [u32]) -> u64
-    ensures { λ r. ⌜ Translates (now (table .entry)) (now (code .entry)) r (now (code .exit)) ⌝ }
+    ensures { λ r. ⌜ ExportedTranslate (now (table .entry)) (now (code .entry)) r (now (code .exit)) ⌝ }
 {
     let answer = translator::translate(table, code);
     match answer {
@@ -113,7 +113,7 @@ pub extern "C" fn circuit_walk(
     cells: &mut [u32],
     outputs: &mut [u32],
 ) -> u64
-    ensures { λ r. ⌜ Walks (now (table .entry)) ticks (now (inputs .entry)) (now (controls .entry)) (now (cells .entry)) (now (outputs .entry)) r (now (cells .exit)) (now (outputs .exit)) ⌝ }
+    ensures { λ r. ⌜ ExportedWalk (now (table .entry)) ticks (now (inputs .entry)) (now (controls .entry)) (now (cells .entry)) (now (outputs .entry)) r (now (cells .exit)) (now (outputs .exit)) ⌝ }
 {
     let answer = walker::walk(table, ticks, inputs, controls, cells, outputs);
     match answer {

@@ -15,7 +15,7 @@ use Rattle.column.specs.declared.ReadAnswer.the-variants.{Nodes, Refused
 use Rattle.column.specs.Checks.{_or_}
 use Rattle.column.specs.Line.{lines, whole, columnRefusal}
 use Rattle.column.specs.File.{linesRefusal, fileRefusal}
-use Rattle.column.specs.Promises.{Checked, firstLine}
+use Rattle.column.specs.Promises.{LinesChecked, firstLine}
 use Rattle.column.proofs.Lines.{lines-first}
 use Rattle.column.proofs.Judged.{columnsLeft, line-whole, whole-line, lines-none}
 
@@ -28,7 +28,7 @@ pub record Checking (file : List ℕ) (at line : ℕ) : Type 0 where
 pub checking-starts : (file : List ℕ) → Checking file 0 0
 checking-starts file = record { within = omega arith; few = omega arith; judged = refl; counted = omega arith }
 
-pub check-empty : (file : List ℕ) → length file ≡ 0 → Checked file (Refused (WrongNodeCount 0))
+pub check-empty : (file : List ℕ) → length file ≡ 0 → LinesChecked file (Refused (WrongNodeCount 0))
 unfolding fileRefusal lines
 check-empty [] e = record { refusal = refl; nodes = λ n q. let x : _≡_ {A = ℕ} 0 1 = cc in absurd (omega arith) }
 check-empty (b ∷ bs) e = absurd (omega arith)
@@ -40,7 +40,7 @@ module _ (file : List ℕ) (at line : ℕ) (filled : length file ≡ 0 → ⊥) 
       let n : length (lines file) ≡ suc (length (lines (drop (length (firstLine file)) file))) = ap length (lines-first file (omega arith)) in
       rw (ne-eqb (length (lines file)) 0 (omega arith)) (p .judged)
 
-  pub check-done : at ≡ length file → Checked file (Nodes line)
+  pub check-done : at ≡ length file → LinesChecked file (Nodes line)
   check-done e =
       let z : lines (drop at file) ≡ [] = lines-none file at (omega arith) in
       let k : length (lines (drop at file)) ≡ 0 = ap length z in
@@ -49,7 +49,7 @@ module _ (file : List ℕ) (at line : ℕ) (filled : length file ≡ 0 → ⊥) 
         nodes = λ n q. let x : line ≡ n = cc in omega (arith, p .counted);
       }
 
-  pub check-refused : (r : Refusal) → linesRefusal line (lines (drop at file)) ≡ some (refusalOf r) → Checked file (Refused r)
+  pub check-refused : (r : Refusal) → linesRefusal line (lines (drop at file)) ≡ some (refusalOf r) → LinesChecked file (Refused r)
   check-refused r e = record { refusal = sym (file-judged ∙ e); nodes = λ n q. let x : _≡_ {A = ℕ} 0 1 = cc in absurd (omega arith) }
 
 -- in line `line`, which is whole

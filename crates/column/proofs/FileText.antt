@@ -17,7 +17,7 @@ use Rattle.word.proofs.Each.{each-append}
 use Rattle.word.proofs.Lists.{first-true}
 use Rattle.column.specs.Number.{space, minus, decimal, numeral, column}
 use Rattle.column.specs.Line.{lineFeed, columns, nodeLine, lines, before, entries, lineRefusal}
-use Rattle.column.specs.File.{linesRefusal, numbers, node, lineOf, linesFrom}
+use Rattle.column.specs.File.{linesRefusal, tableOf, node, lineOf, linesFrom}
 use Rattle.column.proofs.Decimal.{IsDigit, AllDigits, decimal-digits}
 use Rattle.column.proofs.Judged.{or-left, or-right}
 use Rattle.column.proofs.Storing.{Right, line-right}
@@ -43,14 +43,14 @@ node-at : (pre es rest : List ℕ) (i : ℕ) → length pre ≡ 3 * i → length
 unfolding lineOf
 node-at pre es rest i e n = rw (drop-at pre (es ++ rest) (3 * i) e, take-at es rest 3 n)
 
-pub lines-again : (pre : List ℕ) (i : ℕ) (ls : List (List ℕ)) → length pre ≡ 3 * i → linesRefusal i ls ≡ none → linesFrom (pre ++ numbers ls) i (length ls) ≡ flatten ls
+pub lines-again : (pre : List ℕ) (i : ℕ) (ls : List (List ℕ)) → length pre ≡ 3 * i → linesRefusal i ls ≡ none → linesFrom (pre ++ tableOf ls) i (length ls) ≡ flatten ls
 unfolding flatten
 lines-again pre i [] e r = refl
 lines-again pre i (l ∷ ls) e r =
     let q : Right i l = line-right i l (or-left (lineRefusal i l) (linesRefusal (suc i) ls) r) in
     let k : length (pre ++ entries l) ≡ 3 * suc i = omega (arith, length-append pre (entries l)) in
-    ap₂ {C = List ℕ} (λ x y. x ++ y) (node-at pre (entries l) (numbers ls) i e refl ∙ right-again i l q)
-    (ap (λ (t : List ℕ). linesFrom t (suc i) (length ls)) (sym (append-assoc pre (entries l) (numbers ls)))
+    ap₂ {C = List ℕ} (λ x y. x ++ y) (node-at pre (entries l) (tableOf ls) i e refl ∙ right-again i l q)
+    (ap (λ (t : List ℕ). linesFrom t (suc i) (length ls)) (sym (append-assoc pre (entries l) (tableOf ls)))
     ∙ lines-again (pre ++ entries l) (suc i) ls k (or-right (lineRefusal i l) (linesRefusal (suc i) ls) r))
 
 -- how many they are, and how long
@@ -133,7 +133,7 @@ line-entries : (table : List ℕ) (i : ℕ) → Words table → i < 512 → 3 * 
 unfolding lineOf
 line-entries table i w h l = node-line-entries i (node table i) h (words-node table i w) (node-length table i l)
 
-pub texts-numbers : (table : List ℕ) (i n : ℕ) → Words table → i + n ≤ 512 → 3 * (i + n) ≤ length table → numbers (texts table i n) ≡ take (3 * n) (drop (3 * i) table)
+pub texts-numbers : (table : List ℕ) (i n : ℕ) → Words table → i + n ≤ 512 → 3 * (i + n) ≤ length table → tableOf (texts table i n) ≡ take (3 * n) (drop (3 * i) table)
 texts-numbers table i zero w h l = refl
 texts-numbers table i (suc n) w h l =
     let k : 3 * suc n ≡ 3 + 3 * n = omega arith in

@@ -15,7 +15,7 @@ use Rattle.column.specs.Checks.{when, _or_, unless}
 use Rattle.refusal.specs.Outcome.{Outcome, outcome}
 use Rattle.column.specs.Number.{numberIn}
 use Rattle.column.specs.Line.{lines, columnOf, whole, isNode, numberRefusal, columnRefusal, lineRefusal}
-use Rattle.column.specs.File.{linesRefusal, fileRefusal, numbers, reading, linesFrom, countRefusal, writing}
+use Rattle.column.specs.File.{linesRefusal, fileRefusal, tableOf, reading, linesFrom, countRefusal, writing}
 use Rattle.column.proofs.Judged.{or-left, or-right}
 use Rattle.column.proofs.Storing.{when-none}
 
@@ -73,11 +73,11 @@ counted (some (counts ns)) b done n p e = absurd p
 counted (some (refused m q)) b done n p e = let x : _≡_ {A = ℕ} 0 1 = cc in absurd (omega arith)
 
 pub read-counted : (file table : List ℕ) (n : ℕ) → reading file table .answer ≡ count n →
-    (fileRefusal file ≡ none) × ((length (lines file) ≡ n) × (reading file table .buffer ≡ numbers (lines file) ++ drop (3 * n) table))
+    (fileRefusal file ≡ none) × ((length (lines file) ≡ n) × (reading file table .buffer ≡ tableOf (lines file) ++ drop (3 * n) table))
 unfolding reading
 read-counted file table n e =
     let short : Option Answer = when (ltb (length table) (3 * length (lines file))) (refusedAll 12) in
-    let done : Outcome = outcome (count (length (lines file))) (numbers (lines file) ++ drop (3 * length (lines file)) table) in
+    let done : Outcome = outcome (count (length (lines file))) (tableOf (lines file) ++ drop (3 * length (lines file)) table) in
     let c : fileRefusal file or short ≡ none =
     counted (fileRefusal file or short) table done n (or-refusing (fileRefusal file) short (file-refusing file) (when-all-refusing (ltb (length table) (3 * length (lines file))) 12)) e in
     let q : reading file table ≡ done = ap (λ (r : Option Answer). unless r table done) c in

@@ -10,7 +10,7 @@ use lib.Seq.{take-at, take-all}
 use Rattle.refusal.specs.Answer.{count}
 use Rattle.refusal.specs.Outcome.{outcome}
 use Rattle.column.specs.Line.{lines}
-use Rattle.column.specs.File.{linesRefusal, fileRefusal, numbers, reading, linesFrom, writing}
+use Rattle.column.specs.File.{linesRefusal, fileRefusal, tableOf, reading, linesFrom, writing}
 use Rattle.column.specs.Laws.{FileAgain, TableAgain}
 use Rattle.column.proofs.Storing.{file-right, numbers-length}
 use Rattle.column.proofs.Writes.{lines-length, write-put}
@@ -24,7 +24,7 @@ write-nodes table out text n b e h f t c r =
     sym (write-put table out (λ q. omega arith) (omega arith) (omega arith) (linesFrom table 0 (length table / 3) ++ drop (41 * (length table / 3)) out) (omega arith) refl)
     ∙ rw (d, t, c)
 
-read-nodes : (file table : List ℕ) (n : ℕ) → linesRefusal 0 (lines file) ≡ none → length (lines file) ≡ n → 0 < n → 3 * n ≤ length table → reading file table ≡ outcome (count n) (numbers (lines file) ++ drop (3 * n) table)
+read-nodes : (file table : List ℕ) (n : ℕ) → linesRefusal 0 (lines file) ≡ none → length (lines file) ≡ n → 0 < n → 3 * n ≤ length table → reading file table ≡ outcome (count n) (tableOf (lines file) ++ drop (3 * n) table)
 unfolding reading fileRefusal
 read-nodes file table n r e h l = rw (e, ne-eqb n 0 (omega arith), r, le-ltb (length table) (3 * n) l)
 
@@ -33,7 +33,7 @@ file-again file table out n e h =
     let r = read-counted file table n e in
     let ok : linesRefusal 0 (lines file) ≡ none = file-right file (r .0) in
     let k : length (lines file) ≡ n = r .1 .0 in
-    let t : List ℕ = numbers (lines file) in
+    let t : List ℕ = tableOf (lines file) in
     let m : length t ≡ 3 * n = numbers-length (lines file) ∙ ap (λ (k : ℕ). 3 * k) k in
     let s : take (3 * n) (reading file table .buffer) ≡ t = ap (take (3 * n)) (r .1 .1) ∙ take-at t (drop (3 * n) table) (3 * n) m in
     let z : length (lines file) ≡ 0 → ⊥ = some-line file (r .0) in
@@ -55,5 +55,5 @@ table-again table file buffer b w e h =
     let ls : lines t ≡ texts table 0 n = texts-lines table 0 n in
     let r : linesRefusal 0 (lines t) ≡ none = rw ls (texts-right table 0 n w (omega (arith, q .1 .1)) (omega arith)) in
     let k : length (lines t) ≡ n = rw ls (texts-length table 0 n) in
-    let m : numbers (lines t) ≡ table = rw ls (texts-numbers table 0 n w (omega (arith, q .1 .1)) (omega arith) ∙ take-all (3 * n) table (omega arith)) in
+    let m : tableOf (lines t) ≡ table = rw ls (texts-numbers table 0 n w (omega (arith, q .1 .1)) (omega arith) ∙ take-all (3 * n) table (omega arith)) in
     rw f (read-nodes t buffer n r k z (omega arith) ∙ rw (m, l))

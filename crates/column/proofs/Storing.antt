@@ -16,11 +16,11 @@ use Rattle.refusal.specs.Answer.{Answer, count, refusalOf, refusedAt, refusedAl
 use Rattle.column.specs.declared.ReadAnswer.{ReadAnswer}
 use Rattle.column.specs.declared.ReadAnswer.the-variants.{Nodes, Refused}
 use Rattle.column.specs.Answers.{readAnswer}
-use Rattle.column.specs.Promises.{Checked, refusalIn, firstLine}
+use Rattle.column.specs.Promises.{LinesChecked, refusalIn, firstLine}
 use Rattle.column.specs.Checks.{when, _or_}
 use Rattle.refusal.specs.Outcome.{outcome}
 use Rattle.column.specs.Line.{lines, whole, columnRefusal, lineRefusal, entries}
-use Rattle.column.specs.File.{linesRefusal, fileRefusal, numbers, reading}
+use Rattle.column.specs.File.{linesRefusal, fileRefusal, tableOf, reading}
 use Rattle.column.proofs.Judged.{or-left, or-right, lines-some, lines-none, whole-line, entries-of-line}
 use Rattle.column.proofs.Stores.{sets-append, sets-front}
 
@@ -95,7 +95,7 @@ pub record Storing (file table₀ : List ℕ) (nodes : ℕ) (table : List ℕ) (
   pub long : length table ≡ length table₀
   pub right : linesRefusal node (lines (drop (41 * node) file)) ≡ none
   pub left : length (lines (drop (41 * node) file)) ≡ nodes - node
-  pub done : sets table (3 * node) (numbers (lines (drop (41 * node) file))) ≡ sets table₀ 0 (numbers (lines file))
+  pub done : sets table (3 * node) (tableOf (lines (drop (41 * node) file))) ≡ sets table₀ 0 (tableOf (lines file))
 
 pub file-right : (file : List ℕ) → fileRefusal file ≡ none → linesRefusal 0 (lines file) ≡ none
 unfolding fileRefusal
@@ -117,8 +117,8 @@ module _ (file table₀ : List ℕ) (nodes : ℕ) (table : List ℕ) (node : ℕ
       let a : 41 * node + 41 ≡ 41 * (node + 1) = omega arith in
       let b : 3 * node + 3 ≡ 3 * (node + 1) = omega arith in
       let k : length (lines (drop (41 * node) file)) ≡ suc (length (lines (drop (41 * node + 41) file))) = ap length (r .split) in
-      let q : numbers (lines (drop (41 * node) file)) ≡ entries (drop (41 * node) file) ++ numbers (lines (drop (41 * node + 41) file)) =
-      ap numbers (r .split) ∙ ap (λ (l : List ℕ). l ++ numbers (lines (drop (41 * node + 41) file))) (entries-of-line (drop (41 * node) file)) in
+      let q : tableOf (lines (drop (41 * node) file)) ≡ entries (drop (41 * node) file) ++ tableOf (lines (drop (41 * node + 41) file)) =
+      ap tableOf (r .split) ∙ ap (λ (l : List ℕ). l ++ tableOf (lines (drop (41 * node + 41) file))) (entries-of-line (drop (41 * node) file)) in
       record {
         few = omega arith;
         long = ap length e ∙ length-sets table (3 * node) (entries (drop (41 * node) file)) ∙ p .long;
@@ -126,28 +126,28 @@ module _ (file table₀ : List ℕ) (nodes : ℕ) (table : List ℕ) (node : ℕ
         left = rw (← a) (omega (arith, p .left));
         done =
             rw (e, ← a, ← b)
-            (sym (sets-append (entries (drop (41 * node) file)) (numbers (lines (drop (41 * node + 41) file))) table (3 * node))
+            (sym (sets-append (entries (drop (41 * node) file)) (tableOf (lines (drop (41 * node + 41) file))) table (3 * node))
             ∙ ap (λ (l : List ℕ). sets table (3 * node) l) (sym q)
             ∙ p .done);
       }
 
-pub numbers-length : (ls : List (List ℕ)) → length (numbers ls) ≡ 3 * length ls
+pub numbers-length : (ls : List (List ℕ)) → length (tableOf ls) ≡ 3 * length ls
 numbers-length [] = refl
-numbers-length (l ∷ ls) = let e : length (numbers ls) ≡ 3 * length ls = numbers-length ls in omega arith
+numbers-length (l ∷ ls) = let e : length (tableOf ls) ≡ 3 * length ls = numbers-length ls in omega arith
 
 empty : (ls : List (List ℕ)) → length ls ≡ 0 → ls ≡ []
 empty [] e = refl
 empty (l ∷ ls) e = absurd (omega arith)
 
 pub storing-ends : (file table₀ : List ℕ) (nodes : ℕ) (table : List ℕ) (node : ℕ) → nodes ≤ node → nodes ≡ length (lines file) → 3 * nodes ≤ length table₀ →
-    Storing file table₀ nodes table node → table ≡ numbers (lines file) ++ drop (3 * nodes) table₀
+    Storing file table₀ nodes table node → table ≡ tableOf (lines file) ++ drop (3 * nodes) table₀
 storing-ends file table₀ nodes table node h n l p =
     let z : lines (drop (41 * node) file) ≡ [] = empty (lines (drop (41 * node) file)) (p .left ∙ omega arith) in
-    let k : length (numbers (lines file)) ≡ 3 * nodes = numbers-length (lines file) ∙ ap (λ (m : ℕ). 3 * m) (sym n) in
-    ap (λ (ls : List (List ℕ)). sets table (3 * node) (numbers ls)) (sym z) ∙ p .done ∙ sets-front (numbers (lines file)) table₀ (omega arith) ∙ rw k
+    let k : length (tableOf (lines file)) ≡ 3 * nodes = numbers-length (lines file) ∙ ap (λ (m : ℕ). 3 * m) (sym n) in
+    ap (λ (ls : List (List ℕ)). sets table (3 * node) (tableOf ls)) (sym z) ∙ p .done ∙ sets-front (tableOf (lines file)) table₀ (omega arith) ∙ rw k
 
 -- the whole call, by what the check of the lines answered
-module _ (file table : List ℕ) (a : ReadAnswer) (p : Checked file a) where
+module _ (file table : List ℕ) (a : ReadAnswer) (p : LinesChecked file a) where
   pub read-refused : (r : Refusal) → a ≡ Refused r → outcome (readAnswer a) table ≡ reading file table
   unfolding reading
   read-refused r e = let f : some (refusalOf r) ≡ fileRefusal file = ap refusalIn (sym e) ∙ p .refusal in rw (e, ← f)
@@ -163,6 +163,6 @@ module _ (file table : List ℕ) (a : ReadAnswer) (p : Checked file a) where
     unfolding reading
     read-short h = rw (lines-right, ← lines-counted, lt-ltb (length table) (3 * n) h)
 
-    pub read-stored : (table′ : List ℕ) → 3 * n ≤ length table → table′ ≡ numbers (lines file) ++ drop (3 * n) table → outcome (count n) table′ ≡ reading file table
+    pub read-stored : (table′ : List ℕ) → 3 * n ≤ length table → table′ ≡ tableOf (lines file) ++ drop (3 * n) table → outcome (count n) table′ ≡ reading file table
     unfolding reading
     read-stored table′ h q = rw (lines-right, ← lines-counted, le-ltb (length table) (3 * n) h, q)

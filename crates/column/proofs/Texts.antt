@@ -13,7 +13,7 @@ use lib.IntN.{ℤ, pos, negsuc}
 use lib.ListN.{length, getD, drop, replicate, length-append, length-replicate}
 use Rattle.word.specs.Choice.{pick, _and_}
 use Rattle.word.proofs.Lists.{first-true, second-true}
-use Rattle.column.specs.Number.{space, decimal, numeral, column, same, has, amount, fits, candidate, numberIn}
+use Rattle.column.specs.Number.{space, decimal, numeral, column, same, contains, amount, fits, candidate, numberIn}
 use Rattle.column.specs.Laws.{NumberLaw}
 use Rattle.column.proofs.Decimal.{IsDigit, AllDigits, decimal-digits, decimal-amount, decimal-some}
 
@@ -43,11 +43,11 @@ spaces-amount : (k : ℕ) (xs : List ℕ) → amount 0 (replicate k 32 ++ xs) �
 spaces-amount zero xs = refl
 spaces-amount (suc k) xs = spaces-amount k xs
 
-spaces-has : (k : ℕ) (xs : List ℕ) → has 45 (replicate k 32 ++ xs) ≡ has 45 xs
+spaces-has : (k : ℕ) (xs : List ℕ) → contains 45 (replicate k 32 ++ xs) ≡ contains 45 xs
 spaces-has zero xs = refl
 spaces-has (suc k) xs = spaces-has k xs
 
-digits-has : (xs : List ℕ) → AllDigits xs → has 45 xs ≡ false
+digits-has : (xs : List ℕ) → AllDigits xs → contains 45 xs ≡ false
 digits-has [] p = refl
 digits-has (x ∷ xs) p =
     let d : IsDigit x = p .0 in

@@ -20,17 +20,17 @@ linesRefusal i (l ∷ ls) = lineRefusal i l or linesRefusal (suc i) ls
 unfoldable pub fileRefusal : List ℕ → Option Answer
 fileRefusal file = when (eqb (length (lines file)) 0) (refusedAt 3 0) or linesRefusal 0 (lines file)
 
--- the numbers of the lines, three to a line
-abbrev pub numbers : List (List ℕ) → List ℕ
-numbers [] = []
-numbers (l ∷ ls) = entries l ++ numbers ls
+-- the table of the lines, three numbers to a line
+abbrev pub tableOf : List (List ℕ) → List ℕ
+tableOf [] = []
+tableOf (l ∷ ls) = entries l ++ tableOf ls
 
 -- "Reader: lines, 12"; the count of nodes
 unfoldable pub reading : List ℕ → List ℕ → Outcome
 reading file table =
     let nodes = length (lines file) in
     unless (fileRefusal file or when (ltb (length table) (3 * nodes)) (refusedAll 12)) table
-    (outcome (count nodes) (numbers (lines file) ++ drop (3 * nodes) table))
+    (outcome (count nodes) (tableOf (lines file) ++ drop (3 * nodes) table))
 
 -- node i of a table: "three to a node: kind, first, second"
 abbrev pub node : List ℕ → ℕ → List ℕ

@@ -45,9 +45,9 @@ same (x ∷ xs) [] = false
 same (x ∷ xs) (y ∷ ys) = eqb x y and same xs ys
 
 -- whether the byte stands in the text
-abbrev pub has : ℕ → List ℕ → Bool
-has x [] = false
-has x (y ∷ ys) = pick (eqb y x) true (has x ys)
+abbrev pub contains : ℕ → List ℕ → Bool
+contains x [] = false
+contains x (y ∷ ys) = pick (eqb y x) true (contains x ys)
 
 -- what the digits of a text amount to after n; a space or a minus, below the digits, counts as 0
 abbrev pub amount : ℕ → List ℕ → ℕ
@@ -61,7 +61,7 @@ fits (negsuc n) = ltb n (2 ^ 31)
 
 -- the one number that a column can be the text of
 unfoldable pub candidate : List ℕ → ℤ
-candidate text = pick (has minus text) (negℤ (pos (amount 0 text))) (pos (amount 0 text))
+candidate text = pick (contains minus text) (negℤ (pos (amount 0 text))) (pos (amount 0 text))
 
 -- "a 32-bit number of the form": the number whose text the column is
 unfoldable pub numberIn : List ℕ → Option ℤ

@@ -53,6 +53,6 @@ refusalIn (Nodes n) = none
 refusalIn (Refused r) = some (refusalOf r)
 
 -- the lines of a file are checked and counted
-pub record Checked (file : List ℕ) (r : ReadAnswer) : Type 0 where
+pub record LinesChecked (file : List ℕ) (r : ReadAnswer) : Type 0 where
   pub refusal : refusalIn r ≡ fileRefusal file
   pub nodes : (n : ℕ) → r ≡ Nodes n → n ≡ length (lines file)

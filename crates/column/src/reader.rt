@@ -7,9 +7,9 @@ ghost use lib.ListN.{length, drop};
 ghost use lib.Seq.{sets};
 ghost use Rattle.column.specs.Number.{numberIn, wordOf};
 ghost use Rattle.column.specs.Line.{columnOf, whole, lines, entries};
-ghost use Rattle.column.specs.File.{fileRefusal, numbers, reading};
+ghost use Rattle.column.specs.File.{fileRefusal, tableOf, reading};
 ghost use Rattle.column.specs.Answers.{readAnswer};
-ghost use Rattle.column.specs.Promises.{Checked, firstLine, found};
+ghost use Rattle.column.specs.Promises.{LinesChecked, firstLine, found};
 ghost use Rattle.refusal.specs.Outcome.{outcome};
 use crate::LINE_BYTES;
 use crate::MOST_LINES;
@@ -60,7 +60,7 @@ fn column_at(file: &[u8], at: usize, j: usize) -> Number
 
 // Checks line after line, and in a line column after column, up to the first that is wrong.
 fn check_lines(file: &[u8]) -> ReadAnswer
-    ensures { λ r. ⌜ Checked (now (file .entry)) r ⌝ }
+    ensures { λ r. ⌜ LinesChecked (now (file .entry)) r ⌝ }
 {
     if file.len() == 0 {
         return ReadAnswer::Refused(Refusal::WrongNodeCount(0));
@@ -121,7 +121,7 @@ fn store_node(file: &[u8], at: usize, table: &mut [u32], node: usize)
 fn store(file: &[u8], table: &mut [u32], nodes: usize)
     requires { ⌜ fileRefusal (now file) ≡ none ⌝ }
     requires { ⌜ (nodes ≡ length (lines (now file))) × (3 * nodes ≤ length (now table)) ⌝ }
-    ensures { λ _. ⌜ now (table .exit) ≡ numbers (lines (now (file .entry))) ++ drop (3 * nodes) (now (table .entry)) ⌝ }
+    ensures { λ _. ⌜ now (table .exit) ≡ tableOf (lines (now (file .entry))) ++ drop (3 * nodes) (now (table .entry)) ⌝ }
 {
     let mut node: usize = 0;
     while node < nodes {

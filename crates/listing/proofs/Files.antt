@@ -14,9 +14,8 @@ use Rattle.column.specs.declared.ReadAnswer.{ReadAnswer}
 use Rattle.column.specs.declared.ReadAnswer.the-variants.{Nodes, Refused}
 use Rattle.column.specs.Answers.{readAnswer}
 use Rattle.refusal.specs.Outcome.{Outcome, outcome}
-use Rattle.column.specs.Checks.{_or_}
 use Rattle.column.specs.Line.{lines}
-use Rattle.column.specs.File.{fileRefusal, numbers, reading}
+use Rattle.column.specs.File.{fileRefusal, tableOf, reading}
 use Rattle.column.proofs.Refusing.{read-counted}
 use Rattle.column.proofs.Storing.{file-right, numbers-length}
 use Rattle.column.proofs.FileText.{lines-few}
@@ -51,23 +50,23 @@ module _ (file table : List ℕ) (a : ReadAnswer) (table′ : List ℕ) (q : out
       }
 
   module _ (k : ℕ) (e : a ≡ Nodes k) where
-    read : (fileRefusal file ≡ none) × ((length (lines file) ≡ k) × (reading file table .buffer ≡ numbers (lines file) ++ drop (3 * k) table))
+    read : (fileRefusal file ≡ none) × ((length (lines file) ≡ k) × (reading file table .buffer ≡ tableOf (lines file) ++ drop (3 * k) table))
     read = read-counted file table k (sym answered ∙ ap readAnswer e)
 
-    filled : table′ ≡ numbers (lines file) ++ drop (3 * k) table
+    filled : table′ ≡ tableOf (lines file) ++ drop (3 * k) table
     filled = ap (λ (c : Outcome). c .buffer) q ∙ read .1 .1
 
-    counted : length (numbers (lines file)) ≡ 3 * k
+    counted : length (tableOf (lines file)) ≡ 3 * k
     counted = numbers-length (lines file) ∙ ap (λ (n : ℕ). 3 * n) (read .1 .0)
 
     pub read-within : 3 * k ≤ length table′
-    read-within = let l : length (numbers (lines file) ++ drop (3 * k) table) ≡ _ = length-append (numbers (lines file)) (drop (3 * k) table) in rw filled (omega (arith, counted))
+    read-within = let l : length (tableOf (lines file) ++ drop (3 * k) table) ≡ _ = length-append (tableOf (lines file)) (drop (3 * k) table) in rw filled (omega (arith, counted))
 
     pub file-printed : (c : ℕ) → c ≡ 3 * k → {text : List ℕ} {n : ℕ} {text′ : List ℕ} → PrintedTable (take c table′) text n text′ → Printed file text n text′
     unfolding fileText
     file-printed c f {text} {n} {text′} p =
-        let t : take c table′ ≡ numbers (lines file) = rw (f, filled) (take-at (numbers (lines file)) (drop (3 * k) table) (3 * k) counted) in
-        let s : PrintedTable (numbers (lines file)) text n text′ = rw t at p in
+        let t : take c table′ ≡ tableOf (lines file) = rw (f, filled) (take-at (tableOf (lines file)) (drop (3 * k) table) (3 * k) counted) in
+        let s : PrintedTable (tableOf (lines file)) text n text′ = rw t at p in
         record { place = s .place; isLoose = λ g. s .isLoose; begins = rw (read .0) (s .begins) }
 
 -- what a print counts lies within the buffer

@@ -10,7 +10,7 @@ use Rattle.word.specs.Tick.{zeros, headOr}
 use Rattle.refusal.specs.Answer.{Answer}
 use Rattle.refusal.specs.Answer.Answer.{counts, refused}
 use Rattle.column.specs.Line.{lineFeed, columns, lines}
-use Rattle.column.specs.File.{fileRefusal, numbers}
+use Rattle.column.specs.File.{fileRefusal, tableOf}
 use Rattle.arity.specs.Checked.{LoosePlace}
 use Rattle.flat.specs.Flat.{width}
 use Rattle.flat.specs.Code.{header, instructionCount, outputCount, resultsAt}
@@ -59,7 +59,7 @@ unlessRefused (some a) text = answerText a []
 
 -- "A program reads a column file .. and prints the code"
 unfoldable pub fileText : ℕ → List ℕ → List ℕ
-fileText p file = unlessRefused (fileRefusal file) (tableText p (numbers (lines file)))
+fileText p file = unlessRefused (fileRefusal file) (tableText p (tableOf (lines file)))
 
 -- a buffer begins with a text of n bytes, and is otherwise as it was
 pub record Begins (shown text : List ℕ) (n : ℕ) (text′ : List ℕ) : Type 0 where
@@ -69,5 +69,5 @@ pub record Begins (shown text : List ℕ) (n : ℕ) (text′ : List ℕ) : Type 
 -- the buffer holds the print of a file, with some loose node as the place of refusal 9
 pub record Printed (file text : List ℕ) (n : ℕ) (text′ : List ℕ) : Type 0 where
   pub place : ℕ
-  pub isLoose : fileRefusal file ≡ none → LoosePlace (numbers (lines file)) place
+  pub isLoose : fileRefusal file ≡ none → LoosePlace (tableOf (lines file)) place
   pub begins : Begins (fileText place file) text n text′

@@ -4,12 +4,10 @@ use column::put_columns;
 use refusal::Refusal;
 use translator::TranslateAnswer;
 use word::index;
-ghost use mathlib.Core.Path.{_≡_};
-ghost use mathlib.Core.List.{[], _∷_};
 ghost use Prim.Native.Nat.{_+_, _*_, _≤_};
 ghost use lib.ListN.{length};
 ghost use Rattle.refusal.specs.Refusals.{numberOf, placeOf};
-ghost use Rattle.listing.specs.Print.{line, rows, codeText, refusalText, Begins, Printed};
+ghost use Rattle.listing.specs.Print.{line, rows, codeText, refusalText, Printed};
 ghost use Rattle.listing.specs.Steps.{Rows, Put, Listable, PrintedTable};
 
 // Numbers in 12 columns each and a line feed, from `from` on; gives where the next line begins.

@@ -2,7 +2,7 @@
 use Prim.Native.Nat.{ℕ, suc, _^_, _-_, _<_}
 use mathlib.Core.Path.{_≡_, refl}
 use mathlib.Core.Logic.{inl}
-use mathlib.Core.List.{List, [], _∷_}
+use mathlib.Core.List.{[], _∷_}
 use mathlib.Core.List.List·Memᴰ.{List·Memᴰ·head, List·Memᴰ·tail}
 use native.Mathlib.Omega.{arith}
 use lib.Dec.{lit<}
@@ -14,7 +14,7 @@ use Rattle.arity.specs.Tree.Tree.{leaf, ondemand}
 use Rattle.arity.specs.Tree.Primitive.{number, delay}
 use Rattle.arity.specs.Nodes.{Numbered, Distinct, subtree}
 use Rattle.arity.specs.WellFormed.{WellFormed}
-use Rattle.signal.specs.Signal.{History, demands, signal}
+use Rattle.signal.specs.Signal.{demands, signal}
 use Rattle.signal.specs.History.{own}
 use Rattle.signal.specs.Contents.{contents}
 use Rattle.signal.specs.Clock.{Clock, demandsBefore, down, up, _⊗_, upTo, ticks, clocked}

@@ -8,7 +8,7 @@ use lib.ListN.{length, take, length-replicate, length-append}
 use lib.Seq.{take-all}
 use Rattle.word.specs.Choice.{pick}
 use Rattle.word.specs.Tick.{Beam, Tick, tick, headOr, tailOf, zeros}
-use Rattle.arity.specs.Tree.{Tree, Primitive, ins, outs, primOuts}
+use Rattle.arity.specs.Tree.{Primitive, ins, outs, primOuts}
 use Rattle.arity.specs.Tree.Tree.{leaf, join, ondemand}
 use Rattle.arity.specs.Tree.Primitive.{number, control, operation, delay, cable, cut}
 use Rattle.arity.specs.Tree.Composition.{sequence, parallel, split, merge, recursion}

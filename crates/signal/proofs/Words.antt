@@ -1,7 +1,7 @@
 -- Every sample is a 32-bit word where the inputs, the controls and the numbers are.
 use Prim.Native.Nat.{ℕ, zero, suc, _+_, _-_, _/_, _<_, _^_}
 use mathlib.Core.Bool.{Bool, true, false}
-use mathlib.Core.List.{List, [], _∷_, _++_, map}
+use mathlib.Core.List.{List, [], _∷_, map}
 use lib.ListN.{getD, take, drop}
 use Rattle.word.specs.Choice.{pick}
 use Rattle.word.specs.Operation.{add}
@@ -10,7 +10,7 @@ use Rattle.word.specs.Tick.{Beam, Tick, tick, headOr, tailOf, zeros, Each, Word
 use Rattle.word.proofs.Each.{each-append, each-drop, each-head, each-tail, each-map, word-at, words-zeros, words-append, words-take, words-drop}
 use Rattle.word.proofs.Low.{low-word}
 use Rattle.word.proofs.Forms.{operate-word}
-use Rattle.arity.specs.Tree.{Tree, Primitive, ins, outs}
+use Rattle.arity.specs.Tree.{Primitive, ins, outs}
 use Rattle.arity.specs.Tree.Tree.{leaf, join, ondemand}
 use Rattle.arity.specs.Tree.Primitive.{number, control, operation, delay, cable, cut}
 use Rattle.arity.specs.Tree.Composition.{sequence, parallel, split, merge, recursion}
