@@ -1,20 +1,19 @@
 -- The parts of a composition, from what the functions that write them leave.
-use Prim.Native.Nat.{ℕ, _+_, _-_, _/_, _≤_, _<_}
+use Prim.Native.Nat.{ℕ, _+_, _-_, _/_, _≤_}
 use mathlib.Core.Path.{_≡_, refl, sym, ap, _∙_}
 use mathlib.Core.List.{List, []}
 use native.Mathlib.Omega.{arith}
-use lib.ListN.{length, take}
+use lib.ListN.{take}
 use lib.Seq.{take-take}
-use Rattle.arity.specs.Tree.{Tree, Composition, ins, outs}
-use Rattle.arity.specs.Table.{nodes, kindAt, compositionOf}
+use Rattle.arity.specs.Tree.{Tree, ins, outs}
+use Rattle.arity.specs.Table.{kindAt, compositionOf}
 use Rattle.arity.specs.Survey.{rowAt}
 use Rattle.arity.specs.declared.rows.Row.{Row}
 use Rattle.calls.specs.Wiring.{firstInputs, secondInputs}
-use Rattle.walker.specs.Ready.{base, Joins, joining, leftTree, rightTree, firstChild, insOf, outsOf, SecondGiven, Finished}
+use Rattle.walker.specs.Ready.{base, Joins, leftTree, rightTree, firstChild, insOf, outsOf, SecondGiven, Finished}
 use Rattle.walker.proofs.Joining.{Kind, kind-of}
 use Rattle.walker.proofs.Joining.Kind.{sequences, parallels, splits, merges as mergings, recursions}
-use Rattle.walker.proofs.Wires.{own-cell, right-few-inputs, left-few-outputs, merge-room, cells-room, first-fed, first-same, finished-recursion}
-use Rattle.flat.specs.Flat.{Instruction}
+use Rattle.walker.proofs.Wires.{own-cell, right-few-inputs, left-few-outputs, merge-room, cells-room, first-same, finished-recursion}
 use Rattle.translator.specs.Emit.{Emitted, emitted, reads, writes, upFrom, merges}
 use Rattle.translator.specs.Writing.{Room, Written, Puts}
 use Rattle.translator.specs.Parts.{readsOf, writesOf, middle, openingOf, middleOf, closingOf, Opens, Links, Closes, Translatable}
