@@ -1,24 +1,18 @@
 -- Demand 3 at its borders: a premise that asked for more would fail here.
-use Prim.Native.Nat.{ℕ, zero, suc}
+use Prim.Native.Nat.{ℕ}
 use mathlib.Core.Path.{_≡_, refl}
-use mathlib.Core.Bool.{false≢true}
-use mathlib.Core.List.{List, [], _∷_}
+use mathlib.Core.List.{List}
 use native.Mathlib.Omega.{arith}
 use lib.IntN.{ℤ}
 use lib.Dec.{lit<}
-use borrow.Author.Tests.{le-ltb}
-use Rattle.word.specs.Operation.{operands}
-use Rattle.word.proofs.Each.{word-at}
+use Rattle.word.specs.Tick.{Words}
 use Rattle.refusal.specs.Answer.{count}
 use Rattle.refusal.specs.Answer.Answer.{refused}
 use Rattle.cells.specs.Load.{loaded}
 use Rattle.arity.specs.declared.CheckAnswer.the-variants.{Accepted}
-use Rattle.arity.specs.Tree.{ins, outs, need, size}
-use Rattle.arity.specs.Table.{nodes, circuit, tree, treeAt}
-use Rattle.arity.specs.Nodes.{sumTo}
-use Rattle.arity.specs.Check.{checked, nodeByNode, refusalAt, childrenFree, taken, ruleFits}
-use Rattle.arity.specs.Checked.{Checked, LoosePlace}
-use Rattle.arity.specs.Promise.{Words}
+use Rattle.arity.specs.Table.{nodes, circuit}
+use Rattle.arity.specs.Checked.{Checked}
+use Rattle.arity.proofs.Borders.{integrator, integrator-accepted}
 use Rattle.calls.specs.Calls.{Arguments, Element, OthersRefused}
 use Rattle.calls.specs.Law.{LawfulThroughout}
 use Rattle.translator.specs.Translated.{translated}
@@ -40,21 +34,8 @@ module _ (table : List ℕ) (n m : ℕ) (k : Checked table (Accepted n m 2048 16
   largest-no-13 = no-13 table _ n m 2048 16384 k refl words (omega arith) (omega arith)
 
 -- the integrator, and a load that named its one cell
-abbrev pub integrator : List ℕ
-integrator = 3 ∷ 1 ∷ 0 ∷ 5 ∷ 0 ∷ 0 ∷ 11 ∷ 0 ∷ 1 ∷ []
-
-integrator-tight : LoosePlace integrator 0
-unfolding taken
-integrator-tight zero e = e
-integrator-tight (suc zero) e = absurd (false≢true e)
-integrator-tight (suc (suc q)) e = absurd (false≢true (rw (le-ltb (suc (suc (suc q))) 3 (omega arith)) at e))
-
-integrator-accepted : Checked integrator (Accepted 1 1 3 1)
-unfolding checked nodeByNode refusalAt childrenFree taken ruleFits tree treeAt ins outs need size sumTo operands
-integrator-accepted = record { place = 0; isLoose = integrator-tight; answer = refl }
-
 integrator-words : Words integrator
-integrator-words k = word-at integrator k (lit< tt, (lit< tt, (lit< tt, (lit< tt, (lit< tt, (lit< tt, (lit< tt, (lit< tt, (lit< tt, tt)))))))))
+integrator-words = (lit< tt, (lit< tt, (lit< tt, (lit< tt, (lit< tt, (lit< tt, (lit< tt, (lit< tt, (lit< tt, tt)))))))))
 
 pub integrator-lawful : LawfulRuns integrator 1
 integrator-lawful cells f = demand-3 integrator _ 1 1 3 1 integrator-accepted refl integrator-words (omega arith) (omega arith) 1 cells f (omega arith)

@@ -8,7 +8,7 @@ use lib.IntN.{ℤ}
 use lib.ListN.{length, drop, take}
 use lib.Dec.{leb}
 use Rattle.word.specs.Choice.{_and_, pick}
-use Rattle.word.specs.Tick.{zeros}
+use Rattle.word.specs.Tick.{zeros, Words}
 use Rattle.refusal.specs.Answer.{count}
 use Rattle.refusal.specs.Answer.Answer.{refused}
 use Rattle.cells.specs.Block.{Ran, refusal, blockOk, answered, called}
@@ -19,7 +19,6 @@ use Rattle.arity.specs.Tree.{ins, outs}
 use Rattle.arity.specs.Table.{nodes, circuit}
 use Rattle.arity.specs.Nodes.{cellsBefore}
 use Rattle.arity.specs.Checked.{Checked}
-use Rattle.arity.specs.Promise.{Words}
 use Rattle.arity.proofs.Promise.{promise}
 use Rattle.calls.specs.Calls.{Arguments, Refused, Element, OthersRefused}
 use Rattle.calls.specs.Law.{LawfulThroughout}
@@ -80,5 +79,4 @@ pub delivered-runs : {table code code′ : List ℕ} {a : TranslateAnswer} (t : 
 delivered-runs {table} t c e words named cells f enough =
     let k = was-accepted t c e in
     let d = is-delivered t c e in
-    let p = promise k refl words in
-    rw (delivered t c e words) (demand-3 table _ _ _ _ _ k refl words (d .short) (omega (arith, d .few, p .celled)) named cells f (omega (arith, p .celled)))
+    rw (delivered t c e words) (demand-3 table _ _ _ _ _ k refl words (d .short) (d .few) named cells f enough)

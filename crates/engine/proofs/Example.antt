@@ -13,6 +13,7 @@ use Rattle.cells.specs.Block.{called, answered, played}
 use Rattle.arity.specs.Tree.{ins}
 use Rattle.arity.specs.Table.{circuit, tree}
 use Rattle.arity.specs.Check.{checked}
+use Rattle.arity.proofs.Borders.{integrator}
 use Rattle.signal.specs.Signal.{samples}
 use Rattle.flat.specs.Code.{decode, codeTick}
 use Rattle.flat.specs.Check.{instructionOk, instructionsOk, codeOk}
@@ -27,7 +28,7 @@ use Rattle.walker.proofs.WalkList.{refused-walk}
 use Rattle.translator.specs.Translated.{translated}
 use Rattle.engine.specs.Runs.{runOf, runCall}
 use Rattle.engine.proofs.Demand3.{refused-run}
-use Rattle.engine.proofs.Borders.{integrator, integrator-lawful}
+use Rattle.engine.proofs.Borders.{integrator-lawful}
 
 abbrev arguments : ℕ → List ℕ → ℕ → Arguments
 arguments ticks inputs lent = record { ticks = ticks; inputs = inputs; controls = zeros 16; outputs = zeros 5; lent = lent }

@@ -10,9 +10,8 @@ use Rattle.word.proofs.Each.{each-append}
 use Rattle.arity.specs.Tree.{ins, outs, need}
 use Rattle.arity.specs.Table.{nodes, circuit}
 use Rattle.arity.specs.Nodes.{cellsBefore}
-use Rattle.arity.specs.Limits.{Small}
 use Rattle.arity.specs.Checked.{Checked}
-use Rattle.arity.specs.Promise.{Promise, Words as TableWords}
+use Rattle.arity.specs.Promise.{Small, Promise}
 use Rattle.arity.specs.declared.CheckAnswer.the-variants.{Accepted}
 use Rattle.arity.proofs.Promise.{promise}
 use Rattle.calls.proofs.Placing.{all-placed}
@@ -25,7 +24,7 @@ use Rattle.translator.specs.Translated.{translation, translated}
 use Rattle.translator.proofs.Checked.{code-length, results-length, translation-ok}
 use Rattle.translator.proofs.Words.{Worded, small, words-from, numbers-words, emit-words}
 
-module _ {table : List ℕ} {n m c d : ℕ} (k : Checked table (Accepted n m c d)) (entries : TableWords table) where
+module _ {table : List ℕ} {n m c d : ℕ} (k : Checked table (Accepted n m c d)) (entries : Words table) where
   p : Promise table n m c d
   p = promise k refl entries
 

@@ -8,8 +8,8 @@ use native.Mathlib.Numerals.{add-one}
 use native.Mathlib.Omega.{arith}
 use lib.ListN.{length, getD, drop, take, length-append, length-drop}
 use lib.Seq.{length-take-le}
-use lib.Dec.{eqb, leb, ltb}
-use Rattle.word.proofs.OperandCounts.{operands-form}
+use lib.Dec.{eqb, leb, ltb, lit<}
+use borrow.Author.Tests.{eqb-true}
 use Rattle.word.specs.Choice.{pick}
 use Rattle.word.specs.Operation.{operands}
 use Rattle.word.specs.Tick.{headOr, tailOf}
@@ -19,7 +19,7 @@ use Rattle.arity.specs.Tree.Tree.{leaf, join, ondemand}
 use Rattle.arity.specs.Tree.Primitive.{number, control, operation, delay, cable, cut}
 use Rattle.arity.specs.Tree.Composition.{sequence, parallel, split, merge, recursion}
 use Rattle.arity.specs.Nodes.{Complete, cellsBefore}
-use Rattle.arity.specs.Limits.{Small}
+use Rattle.arity.specs.Promise.{Small}
 use Rattle.arity.specs.WellFormed.{WellFormed}
 use Rattle.arity.proofs.Times.{times-whole, times-least}
 use Rattle.signal.specs.Signal.{fill}
@@ -48,19 +48,15 @@ module _ (cells end : ℕ) where
   unfolding instructionOk
   control-ok n s h = both-true (ltb s 16) true (is-below s 16 h) refl
 
-  second-ok : (two : Bool) (n x y : ℕ) → x < n → (two ≡ true → y < n) → pick (eqb (pick two 2 1) 2) (ltb (pick (eqb (pick two 2 1) 2) y 0) n) (eqb (pick (eqb (pick two 2 1) 2) y 0) 0) ≡ true
-  second-ok true n x y h g = is-below y n (g refl)
-  second-ok false n x y h g = refl
+  second-ok : (two : Bool) (n y : ℕ) → (two ≡ true → y < n) → pick two (ltb (pick two y 0) n) (eqb (pick two y 0) 0) ≡ true
+  second-ok true n y g = is-below y n (g refl)
+  second-ok false n y g = refl
 
-  operation-ok : (n o x y : ℕ) → 1 ≤ o → o ≤ 9 → x < n → (leb o 7 ≡ true → y < n) → instructionOk cells end n (instruction 3 o x (pick (eqb (operands o) 2) y 0) 0) ≡ true
+  operation-ok : (n o x y : ℕ) → 0 < operands o → x < n → (eqb (operands o) 2 ≡ true → y < n) → instructionOk cells end n (instruction 3 o x (pick (eqb (operands o) 2) y 0) 0) ≡ true
   unfolding instructionOk
-  operation-ok n o x y l u h g =
-      rw (operands-form o l u)
-      (both-true (ltb 0 (pick (leb o 7) 2 1)) _ (some (leb o 7)) (both-true (ltb x n) _ (is-below x n h) (both-true _ true (second-ok (leb o 7) n x y h g) refl)))
-    where
-      some : (two : Bool) → ltb 0 (pick two 2 1) ≡ true
-      some true = refl
-      some false = refl
+  operation-ok n o x y l h g =
+      both-true (ltb 0 (operands o)) _ (is-below 0 (operands o) l)
+      (both-true (ltb x n) _ (is-below x n h) (both-true _ true (second-ok (eqb (operands o) 2) n y g) refl))
 
   delay-ok : (n x y a d : ℕ) → x < n → y < n → d ≤ 4095 → a + suc d ≤ cells → instructionOk cells end n (instruction 4 x y a d) ≡ true
   unfolding instructionOk
@@ -120,7 +116,7 @@ module _ (cells end : ℕ) where
       let i : at < length xs = omega arith in
       let f = terms-pass k b n (at + b) (suc n) xs (omega arith) (omega arith) (below-more n (suc n) (omega arith) xs s) in
       record {
-        passes = passes-one n (instruction 3 1 acc (getD xs at 0) 0) ((terms k b n (at + b) xs (suc n)) .code) (operation-ok n 1 acc (getD xs at 0) (omega arith) (omega arith) h (λ z. below-at n at xs i s)) (f .passes);
+        passes = passes-one n (instruction 3 1 acc (getD xs at 0) 0) ((terms k b n (at + b) xs (suc n)) .code) (operation-ok n 1 acc (getD xs at 0) (lit< tt) h (λ z. below-at n at xs i s)) (f .passes);
         below = below-more (suc n + k) (n + suc k) (omega arith) ((terms k b n (at + b) xs (suc n)) .results) (f .below);
       }
 
@@ -146,11 +142,7 @@ module _ (cells end : ℕ) where
   emit-passes base (leaf i (number v)) xs n w p e b h = passes-one n _ [] (number-ok n v) (passes-none (suc n))
   emit-passes base (leaf i (control s)) xs n w p e b h = passes-one n _ [] (control-ok n s w) (passes-none (suc n))
   emit-passes base (leaf i (operation o)) xs n w p e b h =
-      passes-one n _ [] (operation-ok n o (getD xs 0 0) (getD xs 1 0) (w .0) (w .1) (below-at n 0 xs (some-operand (leb o 7) (e ∙ operands-form o (w .0) (w .1))) b) (λ z. below-at n 1 xs (rw (e, operands-form o (w .0) (w .1), z) (omega arith)) b)) (passes-none (suc n))
-    where
-      some-operand : (two : Bool) → length xs ≡ pick two 2 1 → 0 < length xs
-      some-operand true g = omega arith
-      some-operand false g = omega arith
+      passes-one n _ [] (operation-ok n o (getD xs 0 0) (getD xs 1 0) w (below-at n 0 xs (omega (arith, w)) b) (λ z. below-at n 1 xs (omega (arith, eqb-true (operands o) 2 z)) b)) (passes-none (suc n))
   emit-passes base (leaf i (delay d)) xs n w p e b h =
       passes-one n _ [] (delay-ok n (getD xs 0 0) (getD xs 1 0) (base i) d (below-at n 0 xs (omega arith) b) (below-at n 1 xs (omega arith) b) w p) (passes-none (suc n))
   emit-passes base (leaf i cable) xs n w p e b h = passes-none n

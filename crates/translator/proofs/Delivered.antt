@@ -9,16 +9,16 @@ use lib.Dec.{leb}
 use lib.ListN.{length, take, drop}
 use lib.Seq.{take-at}
 use Rattle.word.specs.Choice.{pick}
+use Rattle.word.specs.Tick.{Words}
 use Rattle.refusal.specs.Answer.{Answer, count, refusedAll}
 use Rattle.refusal.specs.Answer.Answer.{counts, refused}
 use Rattle.arity.specs.declared.CheckAnswer.the-variants.{Accepted}
 use Rattle.arity.specs.Tree.{ins, outs, need}
 use Rattle.arity.specs.Table.{nodes, circuit}
 use Rattle.arity.specs.Nodes.{cellsBefore}
-use Rattle.arity.specs.Check.{checked, firstCell}
+use Rattle.arity.specs.Check.{checked}
 use Rattle.arity.specs.Checked.{Checked}
-use Rattle.arity.specs.Promise.{Words}
-use Rattle.arity.proofs.Promise.{accepted-as, promise}
+use Rattle.arity.proofs.Promise.{recounted}
 use Rattle.flat.specs.Check.{codeOk}
 use Rattle.translator.specs.declared.TranslateAnswer.{TranslateAnswer}
 use Rattle.translator.specs.Translated.{translated}
@@ -75,8 +75,8 @@ module _ {table code : List ℕ} {a : TranslateAnswer} {code′ : List ℕ} (t :
   unfolding translatedTable
   is-delivered = translates-counted table code n code′ (rw (is-counted .1) at result)
 
-  pub was-accepted : Checked table (Accepted (ins (circuit table)) (outs (circuit table)) (need (circuit table)) (firstCell table (nodes table)))
-  was-accepted = accepted-as (t .place) table (is-counted .0) (t .isLoose) (is-counted .1)
+  pub was-accepted : Checked table (Accepted (ins (circuit table)) (outs (circuit table)) (need (circuit table)) (cellsBefore (circuit table) (nodes table)))
+  was-accepted = recounted (t .place) table (is-counted .0) (t .isLoose) (is-counted .1)
 
   module _ (words : Words table) where
     pub delivered : take n code′ ≡ translated table
@@ -86,6 +86,4 @@ module _ {table code : List ℕ} {a : TranslateAnswer} {code′ : List ℕ} (t :
 
     -- refusal 13 never
     pub delivered-passes : codeOk (take n code′) ≡ true
-    delivered-passes =
-        let few : firstCell table (nodes table) ≤ 16384 = omega (arith, is-delivered .few, promise was-accepted refl words .celled) in
-        rw delivered (code-passes was-accepted words (is-delivered .short) few)
+    delivered-passes = rw delivered (code-passes was-accepted words (is-delivered .short) (is-delivered .few))

@@ -6,8 +6,9 @@ use mathlib.Core.List.{List, [], _∷_, _++_}
 use native.Mathlib.Omega.{arith}
 use lib.ListN.{length, getD, drop, take, length-append, length-drop, List·getD-eq-default}
 use lib.Seq.{length-take-le}
-use lib.Dec.{eqb, leb}
-use Rattle.word.proofs.OperandCounts.{operands-form}
+use lib.Dec.{eqb}
+use borrow.Author.Tests.{eqb-true, eqb-false}
+use Rattle.word.proofs.OperandCounts.{operands-most}
 use Rattle.word.specs.Choice.{pick}
 use Rattle.word.specs.Operation.{operate, add, operands}
 use Rattle.word.specs.Tick.{tick, tailOf}
@@ -30,15 +31,17 @@ use Rattle.translator.proofs.Registers.{Holds, Reads, kept-length, kept
 use Rattle.translator.proofs.Registers.Both.{none, more}
 use Rattle.translator.proofs.Pieces.{skip-do, Does, nothing, andThen, besides, still, reads-do, writes-do, length-reads}
 
--- the operands of an operation
-first-operand : (two : Bool) {ρ xs vs : List ℕ} → length vs ≡ pick two 2 1 → Reads ρ xs vs → getD ρ (getD xs 0 0) 0 ≡ getD vs 0 0
-first-operand true e r = (both-at 0 (omega arith) r) .value
-first-operand false e r = (both-at 0 (omega arith) r) .value
-
-second-operand : (two : Bool) {ρ xs vs : List ℕ} → length vs ≡ pick two 2 1 → Reads ρ xs vs
-    → pick (eqb (pick two 2 1) 2) (getD ρ (pick (eqb (pick two 2 1) 2) (getD xs 1 0) 0) 0) 0 ≡ getD vs 1 0
-second-operand true e r = (both-at 1 (omega arith) r) .value
-second-operand false {vs} e r = sym (List·getD-eq-default vs 0 (omega arith))
+-- the second operand of an operation, 0 where it has one only
+second-operand : (o : ℕ) {ρ xs vs : List ℕ} → length vs ≡ operands o → Reads ρ xs vs
+    → pick (eqb (operands o) 2) (getD ρ (pick (eqb (operands o) 2) (getD xs 1 0) 0) 0) 0 ≡ getD vs 1 0
+second-operand o {ρ} {xs} {vs} e r = go (eqb (operands o) 2) refl
+  where
+    go : (two : Bool) → eqb (operands o) 2 ≡ two → pick two (getD ρ (pick two (getD xs 1 0) 0) 0) 0 ≡ getD vs 1 0
+    go true t = (both-at 1 (omega (arith, eqb-true (operands o) 2 t)) r) .value
+    go false t =
+        let n = eqb-false (operands o) 2 t in
+        let h : length vs ≤ 1 = omega (arith, operands-most o) in
+        sym (List·getD-eq-default vs 0 h)
 
 -- a quotient with no remainder
 pub whole : (q m b : ℕ) → q * b ≡ m → b ≤ m → suc (q - 1) * b ≡ m
@@ -84,10 +87,9 @@ module _ (base : ℕ → ℕ) (controls : List ℕ) where
       record { after = ρ ++ (getD controls s 0 ∷ []); run = refl; gives = reads-last ρ (getD controls s 0) n e }
   right (leaf i (operation o)) xs vs n ρ cs w e k r =
       let v : ℕ = operate o (getD vs 0 0) (getD vs 1 0) in
-      let f : operands o ≡ pick (leb o 7) 2 1 = operands-form o (w .0) (w .1) in
       record {
         after = ρ ++ (v ∷ []);
-        run = rw f (ap₂ (λ (x y : ℕ). machine (ρ ++ (operate o x y ∷ [])) 0 cs) (first-operand (leb o 7) (k ∙ f) r) (second-operand (leb o 7) (k ∙ f) r));
+        run = ap₂ (λ (x y : ℕ). machine (ρ ++ (operate o x y ∷ [])) 0 cs) ((both-at 0 (omega (arith, w)) r) .value) (second-operand o k r);
         gives = reads-last ρ v n e;
       }
   right (leaf i (delay d)) xs vs n ρ cs w e k r =

@@ -10,6 +10,7 @@ use lib.Seq.{length-take-le}
 use Rattle.word.specs.Choice.{pick}
 use Rattle.word.specs.Operation.{operands}
 use Rattle.word.specs.Tick.{Each, Words, headOr, tailOf}
+use Rattle.word.proofs.OperandCounts.{in-table}
 use Rattle.word.proofs.Each.{each-append, each-take, each-drop, each-head, each-tail, word-at}
 use Rattle.arity.specs.Tree.{Tree, ins, outs, size, need}
 use Rattle.arity.specs.Tree.Tree.{leaf, join, ondemand}
@@ -89,7 +90,7 @@ module _ (base : ℕ → ℕ) (cells : ℕ) (few : cells ≤ 16384) where
   emit-words (leaf i (control s)) xs n w p x h = record { code = (five (lit< tt) (small s (omega arith)) (lit< tt) (lit< tt) (lit< tt), tt); results = (small n (omega arith), tt) }
   emit-words (leaf i (operation o)) xs n w p x h =
       record {
-        code = (five (lit< tt) (small o (omega (arith, w .1))) (word-at xs 0 x) (words-pick (eqb (operands o) 2) (getD xs 1 0) (word-at xs 1 x)) (lit< tt), tt);
+        code = (five (lit< tt) (small o (omega (arith, in-table o w .1))) (word-at xs 0 x) (words-pick (eqb (operands o) 2) (getD xs 1 0) (word-at xs 1 x)) (lit< tt), tt);
         results = (small n (omega arith), tt);
       }
   emit-words (leaf i (delay d)) xs n w p x h =

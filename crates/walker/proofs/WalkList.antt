@@ -7,6 +7,7 @@ use native.Mathlib.Omega.{arith}
 use lib.IntN.{ℤ}
 use lib.Dec.{leb}
 use Rattle.word.specs.Choice.{pick}
+use Rattle.word.specs.Tick.{Words}
 use Rattle.word.proofs.Lists.{is-most}
 use Rattle.refusal.specs.Answer.{Answer, count}
 use Rattle.refusal.specs.Answer.Answer.{counts, refused}
@@ -20,8 +21,7 @@ use Rattle.arity.specs.Table.{nodes, circuit}
 use Rattle.arity.specs.Nodes.{cellsBefore}
 use Rattle.arity.specs.Check.{checked}
 use Rattle.arity.specs.Checked.{Checked}
-use Rattle.arity.specs.Promise.{Words}
-use Rattle.arity.proofs.Promise.{promise, same-answer}
+use Rattle.arity.proofs.Promise.{promise}
 use Rattle.calls.specs.Step.{step}
 use Rattle.calls.specs.Calls.{Arguments, Refused, Element, OthersRefused}
 use Rattle.calls.specs.Law.{LawfulThroughout}
@@ -64,15 +64,16 @@ module _ (table : List ℕ) (a : Arguments) (cells : List ℕ) (x : ℕ) (p : �
   refused-walk q from e = record { number = x; place = p; nothing = walk-nothing q e }
 
 -- with an accepted table the place of refusal 9 plays no part
-pub any-place : {table : List ℕ} {answer : CheckAnswer} {n m i d : ℕ} → Checked table answer → answer ≡ Accepted n m i d → (p q : ℕ) → walkedTable p table ≡ walkedTable q table
+pub any-place : {table : List ℕ} {answer : CheckAnswer} {n m i d : ℕ} → Checked table answer → answer ≡ Accepted n m i d → Words table → (p q : ℕ) → walkedTable p table ≡ walkedTable q table
 unfolding walkedTable
-any-place {table} k e p q = ap (λ b. walkedBy b table) (same-answer k e p ∙ sym (same-answer k e q))
+any-place {table} k e words p q = let g = promise k e words in ap (λ b. walkedBy b table) (g .answer p ∙ sym (g .answer q))
 
 own-walk : {table : List ℕ} {answer : CheckAnswer} {n m i d : ℕ} → Checked table answer → answer ≡ Accepted n m i d → Words table → d ≤ 16384 → (p : ℕ)
     → IsProgramOf (nodes table) (circuit table) (walkOf p table)
 unfolding walkedTable walked
 own-walk {table} k e words few p a cells =
-    rw (same-answer k e p, is-most (cellsBefore (circuit table) (nodes table)) 16384 (omega (arith, promise k e words .celled)))
+    let g = promise k e words in
+    rw (g .answer p, is-most (cellsBefore (circuit table) (nodes table)) 16384 (omega (arith, g .celled)))
 
 pub walks-lawful : (table : List ℕ) → Walks table
 walks-lawful table answer n m i d k e words few named cells f enough p list o =

@@ -33,12 +33,19 @@ module _ {A : Type 0} (P : A → Type 0) where
   each-at d (x ∷ xs) zero q (p, ps) = p
   each-at d (x ∷ xs) (suc k) q (p, ps) = each-at d xs k q ps
 
+  pub each-of : (d : A) (xs : List A) → ((k : ℕ) → P (getD xs k d)) → Each P xs
+  each-of d [] p = tt
+  each-of d (x ∷ xs) p = (p 0, each-of d xs (λ k. p (suc k)))
+
 pub each-map : {A B : Type 0} (P : A → Type 0) (Q : B → Type 0) (f : A → B) → ((a : A) → P a → Q (f a)) → (xs : List A) → Each P xs → Each Q (map f xs)
 each-map P Q f g [] p = tt
 each-map P Q f g (x ∷ xs) (p, ps) = (g x p, each-map P Q f g xs ps)
 
 pub word-at : (xs : List ℕ) (k : ℕ) → Words xs → getD xs k 0 < 2 ^ 32
 word-at xs k w = each-at (λ x. x < 2 ^ 32) 0 xs k (lit< tt) w
+
+pub words-of : (xs : List ℕ) → ((k : ℕ) → getD xs k 0 < 2 ^ 32) → Words xs
+words-of xs f = each-of (λ x. x < 2 ^ 32) 0 xs f
 
 pub words-zeros : (n : ℕ) → Words (zeros n)
 words-zeros zero = tt
