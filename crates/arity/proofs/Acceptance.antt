@@ -7,7 +7,8 @@ use mathlib.Core.List.{List}
 use native.Mathlib.Omega.{arith}
 use native.Mathlib.Decide.{decLe, decLt}
 use lib.Dec.{leb}
-use borrow.Author.Tests.{leb-true, eqb-true, le-leb, le-ltb, lt-ltb, eq-eqb, ne-eqb}
+use borrow.Author.Tests.{leb-true, ltb-true, eqb-true, le-leb, le-ltb, lt-ltb, eq-eqb, ne-eqb}
+use Rattle.word.specs.Operation.{operands}
 use Rattle.refusal.specs.Answer.Answer.{counts}
 use Rattle.arity.specs.Tree.{ins, outs}
 use Rattle.arity.specs.Tree.Tree.{join}
@@ -17,6 +18,7 @@ use Rattle.arity.specs.WellFormed.{Ruled}
 use Rattle.arity.specs.Check.{twoChildren, firstInRange, secondInRange, ruleFits, taken, refusalAt, loose, report, checked}
 use Rattle.arity.specs.Checked.{answerOf, Checked, IsAccepted}
 use Rattle.arity.specs.Formed.{Child, Children, Fields, Formed, Fitting}
+use Rattle.arity.specs.Acceptance.{Acceptance}
 use Rattle.arity.specs.declared.CheckAnswer.{CheckAnswer}
 use Rattle.arity.specs.declared.CheckAnswer.the-variants.{Accepted, Refused}
 use Rattle.arity.proofs.Exact.{ruled, arity}
@@ -37,7 +39,7 @@ first-in-range k a b l f = go (decLe k 6)
     small : (k : ℕ) → Alone k → Fields k a b → firstInRange k a ≡ true
     small k k1 f = refl
     small k k2 f = le-leb a 15 (f .control refl)
-    small k k3 f = rw (le-leb 1 a (f .operation refl .0), le-leb a 9 (f .operation refl .1))
+    small k k3 f = lt-ltb 0 (operands a) (f .operation refl)
     small k k4 f = le-leb a 4095 (f .delay refl)
     small k k5 f = eq-eqb a 0 (f .cable refl)
     small k k6 f = eq-eqb a 0 (f .cut refl)
@@ -64,7 +66,7 @@ fields-of : (k a b : ℕ) → firstInRange k a ≡ true → secondInRange k b �
 fields-of k a b g h =
     record {
       control = λ z. leb-true a 15 (first 2 z);
-      operation = λ z. (leb-true _ _ (and-left (leb 1 a) (leb a 9) (first 3 z)), leb-true _ _ (and-right (leb 1 a) (leb a 9) (first 3 z)));
+      operation = λ z. ltb-true 0 (operands a) (first 3 z);
       delay = λ z. leb-true a 4095 (first 4 z);
       cable = λ z. eqb-true a 0 (first 5 z);
       cut = λ z. eqb-true a 0 (first 6 z);
@@ -163,7 +165,7 @@ reported xs (Accepted a b c d) e = (a, b, c, d, refl)
 reported xs (Refused x) e = let z : _≡_ {A = ℕ} 0 1 = cc in absurd (omega arith)
 
 -- exactly the tables of the stated form are accepted whose nodes have arities by the published rules, none above 32
-pub accepted : (t : List ℕ) (r : CheckAnswer) → Checked t r → IsAccepted r ↔ (Formed t × Fitting t)
+accepted : (t : List ℕ) (r : CheckAnswer) → Checked t r → IsAccepted r ↔ (Formed t × Fitting t)
 accepted t r k = (only, λ (f, w). reported _ r (k .answer ∙ complete t f w (k .place)))
   where
     only : IsAccepted r → Formed t × Fitting t
@@ -172,5 +174,5 @@ accepted t r k = (only, λ (f, w). reported _ r (k .answer ∙ complete t f w (k
         (formed t x, fitting t x)
 
 -- so a table of the form is accepted exactly where they count each of its nodes
-pub acceptance : (t : List ℕ) (r : CheckAnswer) → Checked t r → Formed t → IsAccepted r ↔ Fitting t
+pub acceptance : Acceptance
 acceptance t r k f = (λ h. accepted t r k .0 h .1, λ w. accepted t r k .1 (f, w))

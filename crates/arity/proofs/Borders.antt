@@ -1,15 +1,37 @@
--- Acceptance at a border, from the form and the published rules alone: a premise that asked for more would fail here.
-use Prim.Native.Nat.{ℕ, zero, suc, _≤_, _<_}
-use mathlib.Core.Path.{refl}
-use mathlib.Core.List.{List, [], _∷_}
+-- The theorems at their borders, spelled out: a premise that asked for more, or a conclusion that said less, would fail here.
+use Prim.Native.Nat.{ℕ, zero, suc, _+_, _*_, _≤_, _<_}
+use mathlib.Core.Path.{_≡_, refl, sym, _∙_}
+use mathlib.Core.Bool.{Bool, true, false, not, _&&_, false≢true}
+use mathlib.Core.List.{List, [], _∷_, _++_}
 use native.Mathlib.Omega.{arith}
-use lib.Dec.{lit≤}
-use Rattle.arity.specs.Table.{nodes, kindAt, firstAt, secondAt, tree, treeAt}
+use native.Mathlib.Decide.{decLt}
+use lib.Dec.{lit<, lit≤}
+use borrow.Author.Tests.{not-true, le-ltb}
+use Rattle.word.specs.Operation.{operands}
+use Rattle.word.specs.Tick.{zeros, Words}
+use Rattle.refusal.specs.Answer.{refusedAt}
+use Rattle.refusal.specs.Answer.Answer.{counts}
+use Rattle.arity.specs.Tree.{Tree, ins, outs, need, size}
+use Rattle.arity.specs.Table.{nodes, kindAt, firstAt, secondAt, tree, treeAt, circuit}
 use Rattle.arity.specs.Rules.{Arity}
+use Rattle.arity.specs.WellFormed.{Ruled, WellFormed}
+use Rattle.arity.specs.Nodes.{Complete, sumTo, cellsBefore}
+use Rattle.arity.specs.Check.{checked, nodeByNode, refusalAt, childrenFree, taken, ruleFits, loose}
 use Rattle.arity.specs.Checked.{Checked, IsAccepted}
 use Rattle.arity.specs.Formed.{Children, Fields, Formed, Counted, Fitting}
 use Rattle.arity.specs.declared.CheckAnswer.{CheckAnswer}
+use Rattle.arity.specs.declared.CheckAnswer.the-variants.{Accepted}
+use Rattle.arity.proofs.Tests.{and-left, and-right}
+use Rattle.arity.proofs.Exact.{exact}
 use Rattle.arity.proofs.Acceptance.{acceptance}
+use Rattle.arity.proofs.Promise.{promise}
+
+-- the published rules and the counts, each from the other
+only-counted : (x : Tree) (a b : ℕ) → Arity x a b → Ruled x × (a ≡ ins x) × (b ≡ outs x)
+only-counted x a b = exact x a b .0
+
+all-counted : (x : Tree) → Ruled x → Arity x (ins x) (outs x)
+all-counted x u = exact x (ins x) (outs x) .1 (u, refl, refl)
 
 -- one delay, as long as a delay can be
 abbrev longest : List ℕ
@@ -45,3 +67,90 @@ longest-fits = only-node (λ i. Counted (tree longest i)) (2, 1, Arity.delay, li
 
 longest-accepted : (r : CheckAnswer) → Checked longest r → IsAccepted r
 longest-accepted r k = acceptance longest r k longest-formed .1 longest-fits
+
+longest-counted : (r : CheckAnswer) → Checked longest r → IsAccepted r → (a : ℕ) × (b : ℕ) × Arity (tree longest 0) a b × (a ≤ 32) × (b ≤ 32)
+longest-counted r k h = acceptance longest r k longest-formed .0 h 0 (lit< tt)
+
+-- is none of the first n nodes loose?
+abbrev pub tight : List ℕ → ℕ → Bool
+tight t zero = true
+tight t (suc n) = not (loose t n) && tight t n
+
+none-loose : (t : List ℕ) (n : ℕ) → tight t n ≡ true → (q : ℕ) → q < n → loose t q ≡ false
+none-loose t zero e q h = absurd (omega arith)
+none-loose t (suc n) e q h = go (decLt q n) (λ l. none-loose t n (and-right (not (loose t n)) (tight t n) e) q l)
+  where
+    go : Dec (q < n) → (q < n → loose t q ≡ false) → loose t q ≡ false
+    go (yes l) f = f l
+    go (no l) f = let z : q ≡ n = omega arith in rw z (not-true (loose t n) (and-left (not (loose t n)) (tight t n) e))
+
+-- an accepted table by computation
+pub computed : (t : List ℕ) (a b c d : ℕ) → tight t (nodes t) ≡ true → checked 0 t ≡ counts (a ∷ b ∷ c ∷ d ∷ []) → Checked t (Accepted a b c d)
+computed t a b c d e f = record { place = 0; isLoose = λ q h. absurd (false≢true (sym (not-one q) ∙ h)); answer = sym f }
+  where
+    not-one : (q : ℕ) → loose t q ≡ false
+    not-one q = go (decLt q (nodes t))
+      where
+        go : Dec (q < nodes t) → loose t q ≡ false
+        go (yes l) = none-loose t (nodes t) e q l
+        go (no l) = rw (le-ltb (suc q) (nodes t) (omega arith))
+
+-- n + 1 cables side by side
+cables : ℕ → List ℕ
+cables zero = 5 ∷ 0 ∷ 0 ∷ []
+cables (suc n) = cables n ++ (5 ∷ 0 ∷ 0 ∷ 8 ∷ (2 * n) ∷ (2 * n + 1) ∷ [])
+
+-- "32 inputs pass; 33 get 8."
+widest : Checked (cables 31) (Accepted 32 32 0 0)
+unfolding cables checked nodeByNode refusalAt childrenFree taken ruleFits tree treeAt ins outs need size sumTo
+widest = computed (cables 31) 32 32 0 0 refl refl
+
+wider : checked 0 (cables 32) ≡ refusedAt 8 64
+unfolding cables checked nodeByNode refusalAt childrenFree taken ruleFits tree treeAt ins outs need size sumTo
+wider = refl
+
+-- 512 nodes are looked at, and the first gets 4; 513 get 3
+fullest : checked 0 (zeros 1536) ≡ refusedAt 4 0
+unfolding checked nodeByNode refusalAt
+fullest = refl
+
+fuller : checked 0 (zeros 1539) ≡ refusedAt 3 512
+unfolding checked
+fuller = refl
+
+-- "Four delays of D 4095 fit 16,384 cells", side by side
+abbrev pub fourDelays : List ℕ
+fourDelays = 4 ∷ 4095 ∷ 0 ∷ 4 ∷ 4095 ∷ 0 ∷ 8 ∷ 0 ∷ 1 ∷ 4 ∷ 4095 ∷ 0 ∷ 4 ∷ 4095 ∷ 0 ∷ 8 ∷ 3 ∷ 4 ∷ 8 ∷ 2 ∷ 5 ∷ []
+
+pub four-delays : Checked fourDelays (Accepted 8 4 4 16384)
+unfolding checked nodeByNode refusalAt childrenFree taken ruleFits tree treeAt ins outs need size sumTo
+four-delays = computed fourDelays 8 4 4 16384 refl refl
+
+-- an addition in a loop through a cable
+abbrev pub integrator : List ℕ
+integrator = 3 ∷ 1 ∷ 0 ∷ 5 ∷ 0 ∷ 0 ∷ 11 ∷ 0 ∷ 1 ∷ []
+
+pub integrator-accepted : Checked integrator (Accepted 1 1 3 1)
+unfolding checked nodeByNode refusalAt childrenFree taken ruleFits tree treeAt ins outs need size sumTo operands
+integrator-accepted = computed integrator 1 1 3 1 refl refl
+
+-- the promise with 2,048 instructions and 16,384 cells
+module _ (t : List ℕ) (n m : ℕ) (k : Checked t (Accepted n m 2048 16384)) (words : Words t) where
+  largest-limits : (ins (circuit t) ≤ 32) × (outs (circuit t) ≤ 32) × (need (circuit t) ≤ 2048) × (cellsBefore (circuit t) (nodes t) ≤ 16384)
+  largest-limits =
+      let s = promise k refl words .small (omega arith) (omega arith) in
+      (s .inputs, s .outputs, s .instructions, s .cells)
+
+  largest-tree : Arity (circuit t) n m × WellFormed (circuit t) × Complete (nodes t) (circuit t)
+  largest-tree = let p = promise k refl words in (p .arity, p .wellFormed, p .complete)
+
+  largest-counts : (n ≡ ins (circuit t)) × (m ≡ outs (circuit t)) × (2048 ≡ need (circuit t)) × (16384 ≡ cellsBefore (circuit t) (nodes t))
+  largest-counts = let p = promise k refl words in (p .counted .0, p .counted .1, p .counted .2, p .celled)
+
+  largest-answer : (p : ℕ) → checked p t ≡ counts (n ∷ m ∷ 2048 ∷ 16384 ∷ [])
+  largest-answer = promise k refl words .answer
+
+-- and with the largest word
+largest-number : WellFormed (circuit (1 ∷ 4294967295 ∷ 0 ∷ []))
+unfolding checked nodeByNode refusalAt childrenFree taken ruleFits tree treeAt ins outs need size sumTo
+largest-number = promise (computed (1 ∷ 4294967295 ∷ 0 ∷ []) 0 1 1 0 refl refl) refl (lit< tt, (lit< tt, (lit< tt, tt))) .wellFormed

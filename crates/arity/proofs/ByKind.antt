@@ -5,7 +5,8 @@ use mathlib.Core.Bool.{true}
 use native.Mathlib.Omega.{arith}
 use native.Mathlib.Decide.{ℕ-discrete}
 use lib.Dec.{leb}
-use borrow.Author.Tests.{leb-true, eqb-true, le-leb, eq-eqb, ne-eqb}
+use borrow.Author.Tests.{leb-true, ltb-true, eqb-true, le-leb, eq-eqb, ne-eqb}
+use Rattle.word.specs.Operation.{operands}
 use Rattle.arity.specs.Tree.{Tree, ins, outs}
 use Rattle.arity.specs.Table.{primitiveOf, compositionOf}
 use Rattle.arity.specs.WellFormed.{Known, Fits}
@@ -82,7 +83,7 @@ rule-other k l r n =
 pub known-of : (k a : ℕ) → Alone k → a < 2 ^ 32 → firstInRange k a ≡ true → Known (primitiveOf k a)
 known-of k a k1 w e = w
 known-of k a k2 w e = omega (arith, leb-true a 15 e)
-known-of k a k3 w e = (leb-true _ _ (and-left (leb 1 a) (leb a 9) e), leb-true _ _ (and-right (leb 1 a) (leb a 9) e))
+known-of k a k3 w e = ltb-true 0 (operands a) e
 known-of k a k4 w e = leb-true a 4095 e
 known-of k a k5 w e = tt
 known-of k a k6 w e = tt

@@ -1,14 +1,14 @@
 -- The published rules give a tree the counted inputs and outputs, and no others.
 use Prim.Native.Nat.{ℕ, suc, _+_, _-_, _*_}
 use mathlib.Core.Path.{_≡_, refl, sym, ap, ap₂, _∙_, subst, subst₂}
-use mathlib.Core.Logic.{_↔_}
 use native.Mathlib.Omega.{arith}
 use Rattle.arity.specs.Tree.{Tree, Primitive, Composition, ins, outs, primIns, primOuts}
 use Rattle.arity.specs.Tree.Tree.{leaf, join, ondemand}
 use Rattle.arity.specs.Tree.Primitive.{number, control, operation, delay, cable, cut}
 use Rattle.arity.specs.Tree.Composition.{sequence, parallel, split, merge, recursion}
-use Rattle.arity.specs.WellFormed.{Fits, Ruled, WellFormed}
+use Rattle.arity.specs.WellFormed.{Fits, Ruled}
 use Rattle.arity.specs.Rules.{Arity}
+use Rattle.arity.specs.Acceptance.{Exact}
 
 -- what the rules give is what is counted
 pub ruled : {x : Tree} {a b : ℕ} → Arity x a b → Ruled x × (a ≡ ins x) × (b ≡ outs x)
@@ -57,12 +57,5 @@ arity (leaf i p) u = leaf-arity i p
 arity (join i c l r) u = join-arity i c l r (u .2) (arity l (u .0)) (arity r (u .1))
 arity (ondemand i b) u = Arity.ondemand (arity b u)
 
--- the rules give x the inputs a and the outputs b exactly where each composition fits and these are counted
-pub exact : (x : Tree) (a b : ℕ) → Arity x a b ↔ (Ruled x × (a ≡ ins x) × (b ≡ outs x))
+pub exact : Exact
 exact x a b = (ruled, λ (u, e, f). subst₂ (λ (m n : ℕ). Arity x m n) (sym e) (sym f) (arity x u))
-
-pub wellformed-ruled : (x : Tree) → WellFormed x → Ruled x
-unfolding WellFormed Ruled
-wellformed-ruled (leaf i p) w = tt
-wellformed-ruled (join i c l r) w = (wellformed-ruled l (w .0), wellformed-ruled r (w .1), w .2)
-wellformed-ruled (ondemand i b) w = wellformed-ruled b w

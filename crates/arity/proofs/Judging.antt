@@ -1,15 +1,15 @@
 -- One node: the tests on the marks and the rows decide its refusal, and the rows give its counts.
-use Prim.Native.Nat.{ℕ, zero, suc, _≤_, _<_}
+use Prim.Native.Nat.{ℕ, suc, _≤_, _<_}
 use mathlib.Core.Path.{_≡_, refl, sym, ap, ap₂, _∙_}
 use mathlib.Core.Bool.{Bool, true, false, not, _&&_}
-use mathlib.Core.List.{List, [], _∷_}
+use mathlib.Core.List.{List}
 use native.Mathlib.Omega.{arith}
 use native.Mathlib.Decide.{decLe, decLt, ℕ-discrete}
-use lib.ListN.{getD}
-use lib.Dec.{eqb, leb, ltb}
+use lib.Dec.{eqb, ltb}
 use borrow.Author.Tests.{eqb-true, leb-true, not-true, not-false, le-leb, lt-leb, le-ltb}
 use Rattle.word.specs.Choice.{pick, bit}
-use Rattle.word.specs.Operation.{operands, operandTable}
+use Rattle.word.specs.Operation.{operands}
+use Rattle.word.proofs.OperandCounts.{operands-most}
 use Rattle.refusal.specs.Answer.{refusedAt}
 use Rattle.arity.specs.Tree.{Tree, Primitive, ins, outs}
 use Rattle.arity.specs.Tree.Tree.{leaf}
@@ -21,7 +21,6 @@ use Rattle.arity.specs.Survey.{rowOf, rowAt}
 use Rattle.arity.specs.Steps.{countsOf, ruleOf, over, Joins, Modest, Joinable, State, freeIn, childrenIn, Branching, Refuses}
 use Rattle.arity.specs.declared.counts.Counts.{Counts}
 use Rattle.arity.specs.declared.rows.Row.{Row}
-use Rattle.arity.proofs.Tests.{and-left, and-right}
 use Rattle.arity.proofs.ByKind.{rule-other}
 use Rattle.arity.proofs.Taken.{children-of}
 use Rattle.arity.proofs.Trees.{View, view}
@@ -251,25 +250,11 @@ no-rule : (t : List ℕ) (i : ℕ) → kindAt t i ≤ 6 → ruleFits t i ≡ tru
 unfolding ruleFits
 no-rule t i h = rule-other (kindAt t i) (tree t (firstAt t i)) (tree t (secondAt t i)) (λ l m. omega arith)
 
-no-more : ℕ → List ℕ → Bool
-no-more b [] = true
-no-more b (x ∷ xs) = leb x b && no-more b xs
-
-entry-most : (b : ℕ) (xs : List ℕ) → no-more b xs ≡ true → (k : ℕ) → getD xs k 0 ≤ b
-unfolding no-more
-entry-most b [] e k = omega arith
-entry-most b (x ∷ xs) e zero = leb-true x b (and-left (leb x b) (no-more b xs) e)
-entry-most b (x ∷ xs) e (suc k) = entry-most b xs (and-right (leb x b) (no-more b xs) e) k
-
-operands-few : (o : ℕ) → operands o ≤ 32
-unfolding operands no-more
-operands-few o = entry-most 32 operandTable refl o
-
 leaf-narrow : (i : ℕ) (p : Primitive) → narrow (leaf i p) ≡ true
 unfolding ins outs
 leaf-narrow i (number v) = refl
 leaf-narrow i (control s) = refl
-leaf-narrow i (operation o) = rw (le-leb (operands o) 32 (operands-few o))
+leaf-narrow i (operation o) = rw (le-leb (operands o) 32 (omega (arith, operands-most o)))
 leaf-narrow i (delay d) = refl
 leaf-narrow i cable = refl
 leaf-narrow i cut = refl

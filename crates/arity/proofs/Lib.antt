@@ -18,4 +18,4 @@ mod Judging
 mod Next
 mod End
 mod Samples
-mod Borders
+pub mod Borders

@@ -6,17 +6,18 @@ use mathlib.Core.List.{List}
 use native.Mathlib.Omega.{arith}
 use native.Mathlib.Decide.{decLe}
 use lib.ListN.{length}
+use Rattle.word.specs.Tick.{Words}
+use Rattle.word.proofs.Each.{word-at}
 use Rattle.arity.specs.Tree.{ins, outs, need}
 use Rattle.arity.specs.Table.{kindAt, firstAt, secondAt, nodes, tree, circuit, compositionOf}
 use Rattle.arity.specs.Rules.{Arity}
 use Rattle.arity.specs.WellFormed.{Fits, WellFormed}
 use Rattle.arity.specs.Nodes.{Numbered, Complete, cellsBefore}
-use Rattle.arity.specs.Check.{ruleFits, report, checked, cellsOf, firstCell}
-use Rattle.refusal.specs.Answer.Answer.{counts}
-use Rattle.arity.specs.Checked.{answerOf, LoosePlace, Checked}
+use Rattle.arity.specs.Check.{ruleFits, report, cellsOf, firstCell}
+use Rattle.arity.specs.Checked.{answerOf, Checked}
 use Rattle.arity.specs.Formed.{Child, Children}
-use Rattle.arity.specs.Survey.{rowOf, rowAt, putRow, filled, surveyed}
-use Rattle.arity.specs.Promise.{Words, Node, Promise, Shaped}
+use Rattle.arity.specs.Survey.{rowOf, rowAt, putRow, filled}
+use Rattle.arity.specs.Promise.{Node, Promised, Recounted, Rows}
 use Rattle.arity.specs.declared.rows.Row.{Row}
 use Rattle.arity.specs.declared.CheckAnswer.{CheckAnswer}
 use Rattle.arity.specs.declared.CheckAnswer.the-variants.{Accepted}
@@ -70,7 +71,7 @@ module _ (t : List ℕ) (x : Passed t) where
   wellformed words = nodewise t (nodes t) kids-of (λ i. WellFormed (tree t i)) (λ i h kid. step i h kid (view t (nodes t) kids-of i h))
     where
       step : (i : ℕ) → i < nodes t → ((c : ℕ) → Child t i c → WellFormed (tree t c)) → View t i → WellFormed (tree t i)
-      step i h kid (alone a e) = rw e (known-of (kindAt t i) (firstAt t i) (alone-of _ (rights-of i h .least) a) (words _) (rights-of i h .first))
+      step i h kid (alone a e) = rw e (known-of (kindAt t i) (firstAt t i) (alone-of _ (rights-of i h .least) a) (word-at t _ words) (rights-of i h .first))
       step i h kid (two a b e) = rw e (kid _ (inl (a, refl)), kid _ (inr (a, b, refl)), fits i h a b)
       step i h kid (one a e) = rw e (kid _ (inl (omega arith, refl)))
 
@@ -114,19 +115,12 @@ module _ (t : List ℕ) (x : Passed t) where
 passed : {t : List ℕ} {o : CheckAnswer} {a b c d : ℕ} → Checked t o → o ≡ Accepted a b c d → Passed t × (report t ≡ answerOf (Accepted a b c d))
 passed {t} k e = has-passed (k .place) t _ (k .isLoose) (sym (k .answer) ∙ ap answerOf e)
 
--- the answer to an accepted table does not turn on the place that refusal 9 would have
-pub same-answer : {t : List ℕ} {o : CheckAnswer} {a b c d : ℕ} → Checked t o → o ≡ Accepted a b c d → (p : ℕ) → checked p t ≡ answerOf (Accepted a b c d)
-same-answer {t} k e p =
-    let x = passed k e .0 in
-    passes p t (even t (λ z. omega (arith, x .whole, x .least)) (omega (arith, x .whole))) (x .most) (x .right) ∙ rw (x .tight p) (passed k e .1)
+pub recounted : (p : ℕ) (t ks : List ℕ) → Recounted p t ks
+recounted p t ks l e =
+    let (x, r) = has-passed p t ks l e in
+    record { place = p; isLoose = l; answer = rw (first-cell t x (nodes t) (omega arith)) (r ∙ sym e) }
 
--- a table that the check counts is accepted
-pub accepted-as : (p : ℕ) (t ks : List ℕ) → LoosePlace t p → checked p t ≡ counts ks →
-    Checked t (Accepted (ins (circuit t)) (outs (circuit t)) (need (circuit t)) (firstCell t (nodes t)))
-accepted-as p t ks l e = record { place = p; isLoose = l; answer = has-passed p t ks l e .1 ∙ sym e }
-
--- what an accepted table is; its entries are words
-pub promise : {t : List ℕ} {o : CheckAnswer} {a b c d : ℕ} → Checked t o → o ≡ Accepted a b c d → Words t → Promise t a b c d
+pub promise : {t : List ℕ} {o : CheckAnswer} {a b c d : ℕ} → Promised t o a b c d
 promise {t} {o} {a} {b} {c} {d} k e words =
     record {
       whole = x .whole;
@@ -145,6 +139,7 @@ promise {t} {o} {a} {b} {c} {d} k e words =
         cells = omega (arith, total);
       };
       node = node t x words;
+      answer = λ p. passes p t (even t (λ z. omega (arith, x .whole, x .least)) (omega (arith, x .whole))) (x .most) (x .right) ∙ rw (x .tight p) r;
     }
   where
     x : Passed t
@@ -174,10 +169,6 @@ unfolding filled
 filled-length t s zero = refl
 filled-length t s (suc i) = put-length (filled t i s) i (rowOf t i) ∙ filled-length t s i
 
-pub surveyed-length : (t s : List ℕ) → length (surveyed t s) ≡ length s
-unfolding surveyed
-surveyed-length t s = filled-length t s _
-
 filled-row : (t s : List ℕ) (i : ℕ) → 4 * i ≤ length s → (j : ℕ) → j < i → rowAt (filled t i s) j ≡ rowOf t j
 unfolding filled
 filled-row t s zero h = λ j k. absurd (omega arith)
@@ -186,9 +177,7 @@ filled-row t s (suc i) h =
     (λ j k. row-other (filled t i s) i (rowOf t i) j (λ e. omega arith) ∙ filled-row t s i (omega arith) j k)
     (row-same (filled t i s) i (rowOf t i) (omega (arith, filled-length t s i)))
 
--- what a survey leaves of an accepted table
-pub rows : {t : List ℕ} (s : List ℕ) {s′ : List ℕ} {o : CheckAnswer} {a b c d : ℕ} → Checked t o → o ≡ Accepted a b c d → length s ≡ 2048 → s′ ≡ surveyed t s
-    → (i : ℕ) → i < nodes t → Shaped t s′ i
+pub rows : {t : List ℕ} (s : List ℕ) {s′ : List ℕ} {o : CheckAnswer} {a b c d : ℕ} → Rows t s s′ o a b c d
 rows {t} s {s′} {o} {a} {b} {c} {d} k e long f i h =
     let q = row-at in
     record {

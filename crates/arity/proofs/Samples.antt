@@ -28,7 +28,7 @@ samples =
     ∷ sample (4 ∷ 4095 ∷ 0 ∷ []) (counts (2 ∷ 1 ∷ 1 ∷ 4096 ∷ []))
     -- two cables merged onto one
     ∷ sample (cable ++ cable ++ 8 ∷ 0 ∷ 1 ∷ cable ++ 10 ∷ 2 ∷ 3 ∷ []) (counts (2 ∷ 1 ∷ 1 ∷ 0 ∷ []))
-    -- a cut split onto nothing is no rule, since one side has no outputs and the other an input
+    -- a cut split onto a cable: no rule fits, since the left side has no outputs and the right one has an input
     ∷ sample (6 ∷ 0 ∷ 0 ∷ cable ++ 9 ∷ 0 ∷ 1 ∷ []) (refusedAt 7 2)
     ∷ sample [] (refusedAt 3 0)
     ∷ sample (5 ∷ []) (refusedAt 3 0)

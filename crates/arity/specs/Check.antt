@@ -5,6 +5,7 @@ use mathlib.Core.List.{List, [], _∷_}
 use lib.ListN.{length}
 use lib.Dec.{eqb, leb, ltb}
 use Rattle.word.specs.Choice.{pick}
+use Rattle.word.specs.Operation.{operands}
 use Rattle.refusal.specs.Answer.{Answer, refusedAt}
 use Rattle.refusal.specs.Answer.Answer.{counts}
 use Rattle.arity.specs.Tree.{Tree, ins, outs, size, need}
@@ -15,11 +16,12 @@ use Rattle.arity.specs.Nodes.{sumTo}
 abbrev pub knownKind : ℕ → Bool
 knownKind kind = leb 1 kind && leb kind 12
 
--- 5: "a used field of kinds 2 to 4 out of range, or an unused field not 0"; a number's value may be any, and the fields of children are for 6
+-- 5: "a used field of kinds 2 to 4 out of range, or an unused field not 0"; an op is in range where the table of operand counts has it, a number's
+-- value may be any, and the fields of children are for 6
 abbrev pub firstInRange : ℕ → ℕ → Bool
 firstInRange kind first =
     pick (eqb kind 2) (leb first 15)
-    (pick (eqb kind 3) (leb 1 first && leb first 9)
+    (pick (eqb kind 3) (ltb 0 (operands first))
     (pick (eqb kind 4) (leb first 4095)
     (pick (eqb kind 5) (eqb first 0)
     (pick (eqb kind 6) (eqb first 0) true))))
@@ -50,7 +52,7 @@ childrenFree table i =
     (pick (leb (kindAt table i) 11) (free table i l && (free table i r && not (eqb l r)))
     (free table i l))
 
--- n is b some number of times, at least once
+-- n is k times b, k ≥ 1
 abbrev pub multiple : ℕ → ℕ → Bool
 multiple b n = pick (eqb b 0) (eqb n 0) (leb 1 n && eqb (n % b) 0)
 
@@ -105,8 +107,8 @@ loose table p = ltb (suc p) (nodes table) && not (taken table (nodes table) p)
 abbrev pub uneven : List ℕ → Bool
 uneven table = eqb (length table) 0 || not (eqb (length table % 3) 0)
 
--- the whole check; "Refusal 3 has place 0 when the list is empty or its count of numbers is no multiple of three, otherwise 512"; p is the place
--- with refusal 9
+-- the whole check; "Refusal 3 has place 0 when the list or file is empty or a table's count of numbers is no multiple of three, otherwise 512."; p is
+-- the place with refusal 9
 unfoldable pub checked : ℕ → List ℕ → Answer
 checked p table =
     pick (uneven table) (refusedAt 3 0)

@@ -4,6 +4,7 @@ use mathlib.Core.Path.{_≡_}
 use mathlib.Core.Logic.{_⊎_}
 use mathlib.Core.List.{List}
 use lib.ListN.{length}
+use Rattle.word.specs.Operation.{operands}
 use Rattle.arity.specs.Tree.{Tree}
 use Rattle.arity.specs.Table.{kindAt, firstAt, secondAt, nodes, tree}
 use Rattle.arity.specs.Rules.{Arity}
@@ -25,7 +26,7 @@ pub record Children (table : List ℕ) (i : ℕ) : Type 0 where
 -- the fields of a node, by its kind; "Unused fields are 0."
 pub record Fields (kind first second : ℕ) : Type 0 where
   pub control : kind ≡ 2 → first ≤ 15
-  pub operation : kind ≡ 3 → (1 ≤ first) × (first ≤ 9)
+  pub operation : kind ≡ 3 → 0 < operands first
   pub delay : kind ≡ 4 → first ≤ 4095
   pub cable : kind ≡ 5 → first ≡ 0
   pub cut : kind ≡ 6 → first ≡ 0

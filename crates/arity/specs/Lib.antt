@@ -3,10 +3,10 @@ pub mod Table
 pub mod Rules
 pub mod WellFormed
 pub mod Nodes
-pub mod Limits
 pub mod Check
 pub mod Checked
 pub mod Survey
 pub mod Steps
 pub mod Formed
+pub mod Acceptance
 pub mod Promise

@@ -1,20 +1,32 @@
--- What the check promises of a table that it accepts. Crates above this one use nothing else of it.
-use Prim.Native.Nat.{ℕ, _+_, _*_, _^_, _≤_, _<_}
+-- What crates above this one use of the check:
+-- `promise`, what holds of a table that it accepts; `rows`, what holds of the shape that its survey leaves; `recounted`, which takes a table that
+-- `checked` counts for an accepted one. Beside these they cite `checked` and `LoosePlace`, of which the results of walker, translator and exported
+-- check are made: the refusals of the table come first there.
+use Prim.Native.Nat.{ℕ, _+_, _*_, _≤_, _<_}
 use mathlib.Core.Path.{_≡_}
-use mathlib.Core.List.{List}
-use lib.ListN.{length, getD}
-use Rattle.arity.specs.Tree.{ins, outs, size, need}
+use mathlib.Core.List.{List, [], _∷_}
+use lib.ListN.{length}
+use Rattle.word.specs.Operation.{operands}
+use Rattle.word.specs.Tick.{Words}
+use Rattle.refusal.specs.Answer.Answer.{counts}
+use Rattle.arity.specs.Tree.{Tree, ins, outs, size, need}
 use Rattle.arity.specs.Tree.Tree.{leaf, join, ondemand}
 use Rattle.arity.specs.Table.{kindAt, firstAt, secondAt, nodes, tree, circuit, primitiveOf, compositionOf}
 use Rattle.arity.specs.Rules.{Arity}
 use Rattle.arity.specs.WellFormed.{Times, WellFormed}
 use Rattle.arity.specs.Nodes.{Complete, subtree, cellsBefore}
-use Rattle.arity.specs.Limits.{Small}
-use Rattle.arity.specs.Survey.{rowAt}
+use Rattle.arity.specs.Check.{checked}
+use Rattle.arity.specs.Checked.{LoosePlace, Checked}
+use Rattle.arity.specs.Survey.{rowAt, surveyed}
+use Rattle.arity.specs.declared.CheckAnswer.{CheckAnswer}
+use Rattle.arity.specs.declared.CheckAnswer.the-variants.{Accepted}
 
--- the entries of a table are words
-abbrev pub Words : List ℕ → Type 0
-Words table = (k : ℕ) → getD table k 0 < 2 ^ 32
+-- refusals 8, 10 and 11 of a circuit of n nodes do not apply
+pub record Small (n : ℕ) (t : Tree) : Type 0 where
+  pub inputs : ins t ≤ 32
+  pub outputs : outs t ≤ 32
+  pub instructions : need t ≤ 2048
+  pub cells : cellsBefore t n ≤ 16384
 
 -- node i of a table: its fields, its tree, the rule of its kind in the counts of its sides, and where its cells stand
 pub record Node (table : List ℕ) (i : ℕ) : Type 0 where
@@ -22,7 +34,7 @@ pub record Node (table : List ℕ) (i : ℕ) : Type 0 where
   pub least : 1 ≤ kindAt table i
   pub most : kindAt table i ≤ 12
   pub control : kindAt table i ≡ 2 → firstAt table i < 16
-  pub operation : kindAt table i ≡ 3 → (1 ≤ firstAt table i) × (firstAt table i ≤ 9)
+  pub operation : kindAt table i ≡ 3 → 0 < operands (firstAt table i)
   pub delay : kindAt table i ≡ 4 → firstAt table i ≤ 4095
   pub left : 7 ≤ kindAt table i → firstAt table i < i
   -- an ondemand's second field is 0, so it is lower too
@@ -57,6 +69,17 @@ pub record Promise (table : List ℕ) (inputs outputs instructions cells : ℕ) 
   pub complete : Complete (nodes table) (circuit table)
   pub small : instructions ≤ 2048 → cells ≤ 16384 → Small (nodes table) (circuit table)
   pub node : (i : ℕ) → i < nodes table → Node table i
+  -- the check's answer, whatever place refusal 9 would have
+  pub answer : (p : ℕ) → checked p table ≡ counts (inputs ∷ outputs ∷ instructions ∷ cells ∷ [])
+
+-- an accepted table keeps the promise; its entries are words
+abbrev pub Promised : List ℕ → CheckAnswer → (a b c d : ℕ) → Type 0
+Promised t o a b c d = Checked t o → o ≡ Accepted a b c d → Words t → Promise t a b c d
+
+-- a table that `checked` counts is accepted, with the counts of its circuit
+abbrev pub Recounted : ℕ → (t ks : List ℕ) → Type 0
+Recounted p t ks = LoosePlace t p → checked p t ≡ counts ks
+    → Checked t (Accepted (ins (circuit t)) (outs (circuit t)) (need (circuit t)) (cellsBefore (circuit t) (nodes t)))
 
 -- the row of node i in the shape that a survey leaves of an accepted table
 pub record Shaped (table shape : List ℕ) (i : ℕ) : Type 0 where
@@ -64,3 +87,6 @@ pub record Shaped (table shape : List ℕ) (i : ℕ) : Type 0 where
   pub outputs : rowAt shape i .outputs ≡ outs (tree table i)
   pub instructions : rowAt shape i .instructions ≡ need (tree table i)
   pub cell : rowAt shape i .cell ≡ cellsBefore (circuit table) i
+
+abbrev pub Rows : (t s s′ : List ℕ) → CheckAnswer → (a b c d : ℕ) → Type 0
+Rows t s s′ o a b c d = Checked t o → o ≡ Accepted a b c d → length s ≡ 2048 → s′ ≡ surveyed t s → (i : ℕ) → i < nodes t → Shaped t s′ i

@@ -1,12 +1,13 @@
 -- Which trees are circuits: the arity rules as tests of the counted inputs and outputs, and the ranges of the fields.
 use Prim.Native.Nat.{ℕ, _*_, _≤_, _<_, _^_}
 use mathlib.Core.Path.{_≡_}
+use Rattle.word.specs.Operation.{operands}
 use Rattle.arity.specs.Tree.{Tree, Primitive, Composition, ins, outs}
 use Rattle.arity.specs.Tree.Tree.{leaf, join, ondemand}
 use Rattle.arity.specs.Tree.Primitive.{number, control, operation, delay, cable, cut}
 use Rattle.arity.specs.Tree.Composition.{sequence, parallel, split, merge, recursion}
 
--- n is b some number of times, at least once
+-- n is k times b for some k ≥ 1, for split and merge; "k ≥ 1" is the document's, where 004 has any k
 abbrev pub Times : ℕ → ℕ → Type 0
 Times b n = (k : ℕ) × (1 ≤ k) × (k * b ≡ n)
 
@@ -14,7 +15,7 @@ Times b n = (k : ℕ) × (1 ≤ k) × (k * b ≡ n)
 abbrev pub Known : Primitive → Type 0
 Known (number v) = v < 2 ^ 32
 Known (control s) = s < 16
-Known (operation o) = (1 ≤ o) × (o ≤ 9)
+Known (operation o) = 0 < operands o
 Known (delay d) = d ≤ 4095
 Known cable = Unit {0}
 Known cut = Unit {0}

@@ -33,7 +33,7 @@ pub fn first_in_range(kind: u32, first: u32) -> bool
         return first <= 15;
     }
     if kind == 3 {
-        return 1 <= first && first <= 9;
+        return 0 < word::operands(first);
     }
     if kind == 4 {
         return first <= 4095;

@@ -12,7 +12,7 @@ use Rattle.cells.specs.Block.{Ran, ranAs, refusal, blockOk, answered, called}
 use Rattle.cells.proofs.Calls.{block-says}
 use Rattle.arity.specs.Tree.{Tree, ins, outs}
 use Rattle.arity.specs.Nodes.{Complete, cellsBefore}
-use Rattle.arity.specs.Limits.{Small}
+use Rattle.arity.specs.Promise.{Small}
 use Rattle.arity.specs.WellFormed.{WellFormed}
 use Rattle.calls.specs.Step.{step}
 use Rattle.flat.specs.Code.{encode, codeTick}

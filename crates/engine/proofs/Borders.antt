@@ -1,14 +1,11 @@
 -- Demand 3 at its borders: a premise that asked for more would fail here, and so would a conclusion that said less.
-use Prim.Native.Nat.{ℕ, zero, suc}
+use Prim.Native.Nat.{ℕ, _≤_}
 use mathlib.Core.Path.{_≡_, refl}
-use mathlib.Core.Bool.{false≢true}
 use mathlib.Core.List.{List, [], _∷_}
 use native.Mathlib.Omega.{arith}
 use lib.IntN.{ℤ}
 use lib.Dec.{lit<}
-use borrow.Author.Tests.{le-ltb}
-use Rattle.word.specs.Operation.{operands}
-use Rattle.word.proofs.Each.{word-at}
+use Rattle.word.specs.Tick.{Words}
 use Rattle.refusal.specs.Answer.{count}
 use Rattle.refusal.specs.Answer.Answer.{refused}
 use Rattle.cells.specs.Load.{loaded}
@@ -17,8 +14,8 @@ use Rattle.arity.specs.Tree.{ins, outs, need, size}
 use Rattle.arity.specs.Table.{nodes, circuit, tree, treeAt}
 use Rattle.arity.specs.Nodes.{sumTo}
 use Rattle.arity.specs.Check.{checked, nodeByNode, refusalAt, childrenFree, taken, ruleFits}
-use Rattle.arity.specs.Checked.{Checked, LoosePlace}
-use Rattle.arity.specs.Promise.{Words}
+use Rattle.arity.specs.Checked.{Checked}
+use Rattle.arity.proofs.Borders.{computed, fourDelays, four-delays, integrator, integrator-accepted}
 use Rattle.signal.specs.Signal.{History}
 use Rattle.calls.specs.Calls.{Arguments, Element, OthersRefused}
 use Rattle.calls.specs.Law.{HoldsPast, LawfulThroughout}
@@ -33,10 +30,13 @@ LawfulRuns table named = (cells : List ℕ) → loaded named cells .answer ≡ c
     → (list : List Element) → OthersRefused (runOf (translated table)) 0 (loaded named cells .buffer) list
     → LawfulThroughout (nodes table) (circuit table) (runOf (translated table)) 0 [] (loaded named cells .buffer) list
 
+runnable : (table : List ℕ) (n m i d : ℕ) → Checked table (Accepted n m i d) → Words table → i ≤ 2048 → d ≤ 16384 → Runnable table d
+runnable table n m i d k w s f = record { inputs = n; outputs = m; instructions = i; accepted = k; words = w; short = s; few = f }
+
 -- 2,048 instructions and 16,384 cells, and a load that named just these
 module _ (table : List ℕ) (n m : ℕ) (k : Checked table (Accepted n m 2048 16384)) (w : Words table) where
   largest : Runnable table 16384
-  largest = record { inputs = n; outputs = m; instructions = 2048; accepted = k; words = w; short = omega arith; few = omega arith }
+  largest = runnable table n m 2048 16384 k w (omega arith) (omega arith)
 
   largest-lawful : LawfulRuns table 16384
   largest-lawful cells e = demand-3 table 16384 largest 16384 cells e (omega arith)
@@ -48,41 +48,29 @@ module _ (table : List ℕ) (n m : ℕ) (k : Checked table (Accepted n m 2048 16
   largest-no-13 : (a : Arguments) (cells : List ℕ) (p : ℤ) → runOf (translated table) a cells .answer ≡ refused 13 p → ⊥
   largest-no-13 = no-13 table 16384 largest
 
+-- "Four delays of D 4095 fit 16,384 cells"
+four-delays-words : Words fourDelays
+four-delays-words =
+    (lit< tt, (lit< tt, (lit< tt, (lit< tt, (lit< tt, (lit< tt, (lit< tt, (lit< tt, (lit< tt, (lit< tt, (lit< tt, (lit< tt, (lit< tt, (lit< tt, (lit< tt, (lit< tt, (lit< tt, (lit< tt, (lit< tt, (lit< tt, (lit< tt, tt)))))))))))))))))))))
+
+four-delays-lawful : LawfulRuns fourDelays 16384
+four-delays-lawful cells e = demand-3 fourDelays 16384 (runnable fourDelays 8 4 4 16384 four-delays four-delays-words (omega arith) (omega arith)) 16384 cells e (omega arith)
+
 -- the integrator, and a load that named its one cell
-abbrev pub integrator : List ℕ
-integrator = 3 ∷ 1 ∷ 0 ∷ 5 ∷ 0 ∷ 0 ∷ 11 ∷ 0 ∷ 1 ∷ []
-
-integrator-tight : LoosePlace integrator 0
-unfolding taken
-integrator-tight zero e = e
-integrator-tight (suc zero) e = absurd (false≢true e)
-integrator-tight (suc (suc q)) e = absurd (false≢true (rw (le-ltb (suc (suc (suc q))) 3 (omega arith)) at e))
-
-integrator-accepted : Checked integrator (Accepted 1 1 3 1)
-unfolding checked nodeByNode refusalAt childrenFree taken ruleFits tree treeAt ins outs need size sumTo operands
-integrator-accepted = record { place = 0; isLoose = integrator-tight; answer = refl }
-
 integrator-words : Words integrator
-integrator-words k = word-at integrator k (lit< tt, (lit< tt, (lit< tt, (lit< tt, (lit< tt, (lit< tt, (lit< tt, (lit< tt, (lit< tt, tt)))))))))
+integrator-words = (lit< tt, (lit< tt, (lit< tt, (lit< tt, (lit< tt, (lit< tt, (lit< tt, (lit< tt, (lit< tt, tt)))))))))
 
 pub integrator-lawful : LawfulRuns integrator 1
-integrator-lawful cells e = demand-3 integrator 1 (record { inputs = 1; outputs = 1; instructions = 3; accepted = integrator-accepted; words = integrator-words; short = omega arith; few = omega arith }) 1 cells e (omega arith)
+integrator-lawful cells e = demand-3 integrator 1 (runnable integrator 1 1 3 1 integrator-accepted integrator-words (omega arith) (omega arith)) 1 cells e (omega arith)
 
 -- an ondemand cable, and a load that named its one cell
 abbrev pub onDemand : List ℕ
 onDemand = 5 ∷ 0 ∷ 0 ∷ 12 ∷ 0 ∷ 0 ∷ []
 
-on-demand-tight : LoosePlace onDemand 0
-unfolding taken
-on-demand-tight zero e = e
-on-demand-tight (suc q) e = absurd (false≢true (rw (le-ltb (suc (suc q)) 2 (omega arith)) at e))
-
 on-demand-accepted : Checked onDemand (Accepted 2 1 3 1)
-unfolding checked nodeByNode refusalAt childrenFree taken ruleFits tree treeAt ins outs need size sumTo operands
-on-demand-accepted = record { place = 0; isLoose = on-demand-tight; answer = refl }
-
-on-demand-words : Words onDemand
-on-demand-words k = word-at onDemand k (lit< tt, (lit< tt, (lit< tt, (lit< tt, (lit< tt, (lit< tt, tt))))))
+unfolding checked nodeByNode refusalAt childrenFree taken ruleFits tree treeAt ins outs need size sumTo
+on-demand-accepted = computed onDemand 2 1 3 1 refl refl
 
 pub on-demand-lawful : LawfulRuns onDemand 1
-on-demand-lawful cells e = demand-3 onDemand 1 (record { inputs = 2; outputs = 1; instructions = 3; accepted = on-demand-accepted; words = on-demand-words; short = omega arith; few = omega arith }) 1 cells e (omega arith)
+on-demand-lawful cells e =
+    demand-3 onDemand 1 (runnable onDemand 2 1 3 1 on-demand-accepted (lit< tt, (lit< tt, (lit< tt, (lit< tt, (lit< tt, (lit< tt, tt)))))) (omega arith) (omega arith)) 1 cells e (omega arith)

@@ -17,6 +17,7 @@ use Rattle.arity.specs.Tree.{ins, outs}
 use Rattle.arity.specs.Table.{nodes, circuit, tree}
 use Rattle.arity.specs.Nodes.{cellsBefore}
 use Rattle.arity.specs.Check.{checked}
+use Rattle.arity.proofs.Borders.{integrator}
 use Rattle.signal.specs.Signal.{History}
 use Rattle.signal.specs.Contents.{cellsAfter}
 use Rattle.flat.specs.Code.{decode, codeTick}
@@ -34,7 +35,7 @@ use Rattle.walker.proofs.WalkList.{refused-walk}
 use Rattle.translator.specs.Translated.{translated}
 use Rattle.engine.specs.Runs.{runOf, runCall}
 use Rattle.engine.proofs.Demand3.{refused-run}
-use Rattle.engine.proofs.Borders.{integrator, integrator-lawful}
+use Rattle.engine.proofs.Borders.{integrator-lawful}
 
 abbrev arguments : ℕ → List ℕ → List ℕ → ℕ → Arguments
 arguments ticks inputs outputs lent = record { ticks = ticks; inputs = inputs; controls = zeros 16; outputs = outputs; lent = lent }

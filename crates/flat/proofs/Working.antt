@@ -6,10 +6,11 @@ use mathlib.Core.List.{List}
 use native.Mathlib.Omega.{arith}
 use borrow.Author.Tests.{leb-true, eqb-true, ltb-true, lt-ltb}
 use lib.Dec.{eqb, leb, ltb}
-use lib.ListN.{length, getD, take, List·getD-eq-default}
+use lib.ListN.{length, getD, take}
 use lib.Seq.{getD-take}
 use Rattle.word.specs.Choice.{_and_, pick}
 use Rattle.word.specs.Operation.{operate, operandTable, operands, demand}
+use Rattle.word.proofs.OperandCounts.{in-table}
 use Rattle.flat.specs.Flat.{Instruction, instruction, effect, worked}
 use Rattle.flat.specs.Check.{instructionOk}
 use Rattle.flat.specs.Steps.{Workable}
@@ -47,29 +48,15 @@ row cells end r k a b c d h =
     either k 1 number (λ n1. either k 2 control (λ n2. either k 3 operation (λ n3. either k 4 delay (λ n4. either k 5 read (λ n5. either k 6 write (λ n6. either k 7 skip (λ n7.
     absurd (false≢true (simp (n1, n2, n3, n4, n5, n6, n7) at h)))))))))
 
--- the operations are those from 1 to 9
-known-op : (a : ℕ) → ltb 0 (operands a) ≡ true → (0 < a) × (a < 10)
-unfolding operands
-known-op a t = (
-  le-by (λ (h : a ≡ 0). false≢true (rw h at t)),
-  below (λ (h : 10 ≤ a). false≢true (rw (List·getD-eq-default operandTable 0 h) at t)),
-)
-  where
-    le-by : (a ≡ 0 → ⊥) → 0 < a
-    le-by h = omega arith
-
-    below : (10 ≤ a → ⊥) → a < 10
-    below h = omega arith
-
 -- what the check says, row by row
 module _ (cells end r k a b c d : ℕ) (h : instructionOk cells end r (instruction k a b c d) ≡ true) where
   says2 : k ≡ 2 → a < 16
   unfolding instructionOk
   says2 e = ltb-true _ _ (four (ltb a 16) (eqb b 0) (eqb c 0) (eqb d 0) (rw e at h) .0)
 
-  says-op : k ≡ 3 → (0 < a) × (a < 10)
+  says-op : k ≡ 3 → 0 < operands a
   unfolding instructionOk
-  says-op e = known-op a (four (ltb 0 (operands a)) (ltb b r) (pick (eqb (operands a) 2) (ltb c r) (eqb c 0)) (eqb d 0) (rw e at h) .0)
+  says-op e = ltb-true _ _ (four (ltb 0 (operands a)) (ltb b r) (pick (eqb (operands a) 2) (ltb c r) (eqb c 0)) (eqb d 0) (rw e at h) .0)
 
   says3 : k ≡ 3 → (b < r) × (c < r)
   unfolding instructionOk
@@ -138,16 +125,16 @@ skips-inside cells end r controls x ρ cs h l = go (x .a) (x .b) (x .c) (x .d) (
 
 -- the key of an instruction, from its code and its a
 abbrev keyed : ℕ → ℕ → ℕ
-keyed k a = pick (eqb k 7) 0 (pick (eqb k 3 and ltb a 10) (7 + a) k)
+keyed k a = pick (eqb k 7) 0 (pick (eqb k 3 and ltb 0 (operands a)) (7 + a) k)
 
 -- a key from 1 to 7 is a code, as there is no operation 0
-key-code : {k : ℕ} (a j : ℕ) → Row k → (k ≡ 3 → (0 < a) × (a < 10)) → keyed k a ≡ j → 0 < j → j ≤ 7 → k ≡ j
+key-code : {k : ℕ} (a j : ℕ) → Row k → (k ≡ 3 → 0 < operands a) → keyed k a ≡ j → 0 < j → j ≤ 7 → k ≡ j
 key-code a j number o e m l = e
 key-code a j control o e m l = e
-key-code a j operation o e m l = go (ltb a 10) e
+key-code a j operation o e m l = go (ltb 0 (operands a)) e
   where
     go : (t : Bool) → pick t (7 + a) 3 ≡ j → 3 ≡ j
-    go true e = omega (arith, o refl .0)
+    go true e = omega (arith, in-table a (o refl) .0)
     go false e = e
 key-code a j delay o e m l = e
 key-code a j read o e m l = e
@@ -158,7 +145,7 @@ key-code a j skip o e m l = omega arith
 key-op : {k : ℕ} (a j : ℕ) → Row k → keyed k a ≡ 8 + j → (k ≡ 3) × (a ≡ 1 + j)
 key-op a j number e = omega arith
 key-op a j control e = omega arith
-key-op a j operation e = (refl, go (ltb a 10) e)
+key-op a j operation e = (refl, go (ltb 0 (operands a)) e)
   where
     go : (t : Bool) → pick t (7 + a) 3 ≡ 8 + j → a ≡ 1 + j
     go true e = omega arith
@@ -172,15 +159,15 @@ key-op a j skip e = omega arith
 abbrev Rest : Type 0 → ℕ → Type 0
 Rest A z = (((((((((((((A × (z ≡ 1 → ⊥)) × (z ≡ 2 → ⊥)) × (z ≡ 4 → ⊥)) × (z ≡ 5 → ⊥)) × (z ≡ 6 → ⊥)) × (z ≡ 8 → ⊥)) × (z ≡ 9 → ⊥)) × (z ≡ 10 → ⊥)) × (z ≡ 11 → ⊥)) × (z ≡ 12 → ⊥)) × (z ≡ 13 → ⊥)) × (z ≡ 14 → ⊥)) × (z ≡ 15 → ⊥)) × (z ≡ 16 → ⊥)
 
-key-left : {k : ℕ} {A : Type 0} (a : ℕ) → Row k → (k ≡ 3 → (0 < a) × (a < 10)) → Rest A (keyed k a) → k ≡ 7
+key-left : {k : ℕ} {A : Type 0} (a : ℕ) → Row k → (k ≡ 3 → 0 < operands a) → Rest A (keyed k a) → k ≡ 7
 key-left a number o n = absurd (n .0 .0 .0 .0 .0 .0 .0 .0 .0 .0 .0 .0 .0 .1 refl)
 key-left a control o n = absurd (n .0 .0 .0 .0 .0 .0 .0 .0 .0 .0 .0 .0 .1 refl)
-key-left a operation o n = absurd (none (o refl .0) (o refl .1) (rw (lt-ltb a 10 (o refl .1)) at n))
+key-left a operation o n = let (l, h) = in-table a (o refl) in absurd (none l h (rw (lt-ltb 0 (operands a) (o refl)) at n))
   where
     on : {j : ℕ} → j ≤ a → (7 + a ≡ 7 + j → ⊥) → suc j ≤ a
     on l q = omega arith
 
-    none : {A : Type 0} → 0 < a → a < 10 → Rest A (7 + a) → ⊥
+    none : {A : Type 0} → 0 < a → a < length operandTable → Rest A (7 + a) → ⊥
     none l h n = omega (arith, on (on (on (on (on (on (on (on (on l (n .0 .0 .0 .0 .0 .0 .0 .0 .1)) (n .0 .0 .0 .0 .0 .0 .0 .1)) (n .0 .0 .0 .0 .0 .0 .1)) (n .0 .0 .0 .0 .0 .1)) (n .0 .0 .0 .0 .1)) (n .0 .0 .0 .1)) (n .0 .0 .1)) (n .0 .1)) (n .1))
 key-left a delay o n = absurd (n .0 .0 .0 .0 .0 .0 .0 .0 .0 .0 .0 .1 refl)
 key-left a read o n = absurd (n .0 .0 .0 .0 .0 .0 .0 .0 .0 .0 .1 refl)

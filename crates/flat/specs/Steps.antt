@@ -6,6 +6,7 @@ use mathlib.Core.List.{List, _∷_, _++_}
 use lib.Dec.{eqb, ltb}
 use lib.ListN.{length, getD, take}
 use Rattle.word.specs.Choice.{_and_, pick}
+use Rattle.word.specs.Operation.{operands}
 use Rattle.word.specs.Tick.{zeros}
 use Rattle.flat.specs.declared.format.Instruction.{Instruction as Listed}
 use Rattle.flat.specs.Flat.{Instruction, instruction, width, effect, worked}
@@ -31,7 +32,7 @@ pub record Checked (code : List ℕ) : Type 0 where
 
 -- what an instruction does, in one number, its key: 0 for a skip, 7 and its op for an operation, for any other its code
 abbrev pub keyOf : Instruction → ℕ
-keyOf x = pick (eqb (x .code) 7) 0 (pick (eqb (x .code) 3 and ltb (x .a) 10) (7 + x .a) (x .code))
+keyOf x = pick (eqb (x .code) 7) 0 (pick (eqb (x .code) 3 and ltb 0 (operands (x .a))) (7 + x .a) (x .code))
 
 -- the keys of the instructions from place p on stand at the registers that these write, from r on and before `end`
 pub record Keys (code keys : List ℕ) (end p r : ℕ) : Type 0 where

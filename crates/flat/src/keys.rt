@@ -6,6 +6,7 @@ use crate::format::Instruction;
 use crate::format::WIDTH;
 use crate::format::instruction_at;
 use word::index;
+use word::operands;
 ghost use mathlib.Core.Path.{_≡_};
 ghost use Prim.Native.Nat.{_+_, _≤_};
 ghost use lib.ListN.{length};
@@ -22,7 +23,7 @@ fn key_of(x: Instruction) -> u32
     if x.code != 3 {
         return x.code;
     }
-    if x.a < 10 {
+    if 0 < operands(x.a) {
         return 7 + x.a;
     }
     x.code

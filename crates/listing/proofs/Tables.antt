@@ -1,14 +1,14 @@
 -- The print of a table, by what the translator answered.
-use Prim.Native.Nat.{ℕ, _≤_}
+use Prim.Native.Nat.{ℕ, _^_, _≤_, _<_}
 use mathlib.Core.Path.{_≡_, sym, ap, _∙_}
 use mathlib.Core.List.{List, _++_}
 use native.Mathlib.Omega.{arith}
-use lib.ListN.{length, take, drop}
+use lib.ListN.{length, getD, take, drop}
 use Rattle.word.specs.Tick.{zeros}
+use Rattle.word.proofs.Each.{words-of}
 use Rattle.refusal.specs.declared.Refusal.{Refusal}
 use Rattle.refusal.specs.Refusals.{numberOf, placeOf}
 use Rattle.column.proofs.Stores.{sets-front}
-use Rattle.arity.specs.Promise.{Words}
 use Rattle.flat.proofs.Decoded.{code-header}
 use Rattle.translator.specs.declared.TranslateAnswer.{TranslateAnswer}
 use Rattle.translator.specs.declared.TranslateAnswer.the-variants.{Numbers, Refused}
@@ -41,8 +41,8 @@ module _ {table code : List ℕ} {a : TranslateAnswer} {code′ : List ℕ} (t :
     pub is-within : n ≤ length code
     is-within = omega (arith, delivered-here .counted, delivered-here .within)
 
-    pub is-listable : Words table → (text : List ℕ) → 125393 ≤ length text → Listable (take n code′) text
-    is-listable words text h = record { head = code-header (take n code′) (delivered-passes t n (ap answerOf e) words); room = h }
+    pub is-listable : ((k : ℕ) → getD table k 0 < 2 ^ 32) → (text : List ℕ) → 125393 ≤ length text → Listable (take n code′) text
+    is-listable entries text h = record { head = code-header (take n code′) (delivered-passes t n (ap answerOf e) (words-of table entries)); room = h }
 
 -- the whole call on a table
 module _ {table : List ℕ} {a : TranslateAnswer} {code′ : List ℕ} (t : Translates table (zeros mostNumbers) a code′) {text : List ℕ} {n : ℕ} {text′ : List ℕ} where

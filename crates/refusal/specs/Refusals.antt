@@ -1,7 +1,5 @@
 -- "A refusal is its number and a place: the line or node for 1 to 9, else -1."
-use Prim.Native.Nat.{ℕ}
-use mathlib.Core.Bool.{cond}
-use lib.Dec.{leb}
+use Prim.Native.Nat.{ℕ, suc, _-_, _%_, _^_}
 use lib.IntN.{ℤ, pos, negsuc}
 use Rattle.refusal.specs.declared.Refusal.{Refusal}
 use Rattle.refusal.specs.declared.Refusal.the-variants.{MalformedLine, WrongNodeNumber, WrongNodeCount, UnknownKind, WrongField, WrongChild, NoArityRule, TooWide, LooseNode, TooManyInstructions, TooManyCells, ShortBuffer, WrongCode, WrongBlock}
@@ -22,25 +20,27 @@ numberOf ShortBuffer = 12
 numberOf WrongCode = 13
 numberOf WrongBlock = 14
 
--- the line or node that the refusal carries, 0 where it carries none
-abbrev pub lineOrNode : Refusal → ℕ
-lineOrNode (MalformedLine p) = p
-lineOrNode (WrongNodeNumber p) = p
-lineOrNode (WrongNodeCount p) = p
-lineOrNode (UnknownKind p) = p
-lineOrNode (WrongField p) = p
-lineOrNode (WrongChild p) = p
-lineOrNode (NoArityRule p) = p
-lineOrNode (TooWide p) = p
-lineOrNode (LooseNode p) = p
-lineOrNode TooManyInstructions = 0
-lineOrNode TooManyCells = 0
-lineOrNode ShortBuffer = 0
-lineOrNode WrongCode = 0
-lineOrNode WrongBlock = 0
-
 abbrev pub noPlace : ℤ
 noPlace = negsuc 0
 
+-- by the refusal itself, not by its number: one that is added says whether it has a place
 abbrev pub placeOf : Refusal → ℤ
-placeOf r = cond (leb (numberOf r) 9) (pos (lineOrNode r)) noPlace
+placeOf (MalformedLine p) = pos p
+placeOf (WrongNodeNumber p) = pos p
+placeOf (WrongNodeCount p) = pos p
+placeOf (UnknownKind p) = pos p
+placeOf (WrongField p) = pos p
+placeOf (WrongChild p) = pos p
+placeOf (NoArityRule p) = pos p
+placeOf (TooWide p) = pos p
+placeOf (LooseNode p) = pos p
+placeOf TooManyInstructions = noPlace
+placeOf TooManyCells = noPlace
+placeOf ShortBuffer = noPlace
+placeOf WrongCode = noPlace
+placeOf WrongBlock = noPlace
+
+-- the word that stands for a place: a line or node is one already
+abbrev pub placeWord : ℤ → ℕ
+placeWord (pos p) = p
+placeWord (negsuc n) = 2 ^ 32 - suc (n % 2 ^ 32)

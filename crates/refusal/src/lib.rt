@@ -1,7 +1,7 @@
 // The refusals of the document, each named for what it means, with its number and its place.
 ghost use mathlib.Core.Path.{_≡_};
 ghost use Rattle.word.specs.Word.{low};
-ghost use Rattle.refusal.specs.Refusals.{numberOf, lineOrNode, placeOf};
+ghost use Rattle.refusal.specs.Refusals.{numberOf, placeOf, placeWord};
 
 // The place of the first nine is a line of a column file or a node of a table.
 pub enum Refusal {
@@ -35,6 +35,9 @@ pub enum Refusal {
     WrongBlock,
 }
 
+// -1, for a refusal without a place.
+const NO_PLACE: u32 = 4294967295;
+
 // The document's number of a refusal.
 pub fn number(refusal: Refusal) -> u32
     ensures { λ r. ⌜ r ≡ numberOf refusal ⌝ }
@@ -57,9 +60,9 @@ pub fn number(refusal: Refusal) -> u32
     }
 }
 
-// The line or node of a refusal, 0 where it has none.
-fn line_or_node(refusal: Refusal) -> u32
-    ensures { λ r. ⌜ r ≡ lineOrNode refusal ⌝ }
+// The place that a refusal carries, or the word of -1.
+fn carried(refusal: Refusal) -> u32
+    ensures { λ r. ⌜ r ≡ placeWord (placeOf refusal) ⌝ }
 {
     match refusal {
         Refusal::MalformedLine(at) => at,
@@ -71,11 +74,11 @@ fn line_or_node(refusal: Refusal) -> u32
         Refusal::NoArityRule(at) => at,
         Refusal::TooWide(at) => at,
         Refusal::LooseNode(at) => at,
-        Refusal::TooManyInstructions => 0,
-        Refusal::TooManyCells => 0,
-        Refusal::ShortBuffer => 0,
-        Refusal::WrongCode => 0,
-        Refusal::WrongBlock => 0,
+        Refusal::TooManyInstructions => NO_PLACE,
+        Refusal::TooManyCells => NO_PLACE,
+        Refusal::ShortBuffer => NO_PLACE,
+        Refusal::WrongCode => NO_PLACE,
+        Refusal::WrongBlock => NO_PLACE,
     }
 }
 
@@ -83,8 +86,5 @@ fn line_or_node(refusal: Refusal) -> u32
 pub fn place(refusal: Refusal) -> u32
     ensures { λ r. ⌜ r ≡ low (placeOf refusal) ⌝ }
 {
-    if number(refusal) <= 9 {
-        return line_or_node(refusal);
-    }
-    4294967295
+    carried(refusal)
 }

@@ -7,7 +7,7 @@ use native.Mathlib.Omega.{arith}
 use lib.Dec.{lit<, lit≤}
 use lib.ListN.{length, take, drop-of-length-le}
 use Rattle.word.specs.Operation.{operands}
-use Rattle.word.specs.Tick.{tick}
+use Rattle.word.specs.Tick.{tick, Words}
 use Rattle.word.proofs.Each.{word-at}
 use Rattle.arity.specs.Tree.{Tree, ins, outs, need}
 use Rattle.arity.specs.Tree.Tree.{leaf}
@@ -15,7 +15,6 @@ use Rattle.arity.specs.Tree.Primitive.{delay}
 use Rattle.arity.specs.Table.{tree}
 use Rattle.arity.specs.Nodes.{Complete, cellsBefore}
 use Rattle.arity.specs.WellFormed.{WellFormed}
-use Rattle.arity.specs.Promise.{Words}
 use Rattle.calls.specs.Step.{step}
 use Rattle.flat.specs.Code.{encode, decode, codeTick}
 use Rattle.flat.specs.Check.{instructionOk, instructionsOk, codeOk}

@@ -33,7 +33,7 @@ use Rattle.translator.specs.Laws.{TranslationOk}
 use Rattle.translator.proofs.Registers.{Below}
 use Rattle.translator.proofs.Below.{below-more, below-append, below-take, below-drop, below-tail, below-head, below-copies, below-at, below-from}
 use Rattle.translator.proofs.Pieces.{length-reads, length-writes}
-use Rattle.translator.proofs.Right.{known-operands, whole}
+use Rattle.translator.proofs.Right.{whole}
 use Rattle.translator.proofs.Count.{length-upFrom, terms-need, merges-need, merges-outs, emit-outs, emit-need, emit-below}
 
 module _ (cells end : ℕ) where
@@ -89,7 +89,7 @@ module _ (cells end : ℕ) where
   emit-passes base (leaf i (number v)) xs n w p e b h = one-ok cells end n _ (number-ok cells end n v)
   emit-passes base (leaf i (control s)) xs n w p e b h = one-ok cells end n _ (control-ok cells end n s w)
   emit-passes base (leaf i (operation o)) xs n w p e b h =
-      let some : 0 < operands o = known-operands o w in
+      let some : 0 < operands o = w in
       one-ok cells end n _ (operation-ok cells end n o (getD xs 0 0) (getD xs 1 0) some (below-at n 0 xs (omega arith) b) (λ two. below-at n 1 xs (omega arith) b))
   emit-passes base (leaf i (delay d)) xs n w p e b h =
       one-ok cells end n _ (delay-ok cells end n (getD xs 0 0) (getD xs 1 0) (base i) d (below-at n 0 xs (omega arith) b) (below-at n 1 xs (omega arith) b) w p)

@@ -9,16 +9,16 @@ use lib.Dec.{leb}
 use lib.ListN.{length, take, drop}
 use lib.Seq.{take-at}
 use Rattle.word.specs.Choice.{pick}
+use Rattle.word.specs.Tick.{Words}
 use Rattle.refusal.specs.Answer.{Answer, count, refusedAll}
 use Rattle.refusal.specs.Answer.Answer.{counts, refused}
 use Rattle.arity.specs.declared.CheckAnswer.the-variants.{Accepted}
 use Rattle.arity.specs.Tree.{ins, outs, need}
 use Rattle.arity.specs.Table.{nodes, circuit}
 use Rattle.arity.specs.Nodes.{cellsBefore}
-use Rattle.arity.specs.Check.{checked, firstCell}
+use Rattle.arity.specs.Check.{checked}
 use Rattle.arity.specs.Checked.{Checked}
-use Rattle.arity.specs.Promise.{Words}
-use Rattle.arity.proofs.Promise.{accepted-as, promise}
+use Rattle.arity.proofs.Promise.{recounted, promise}
 use Rattle.flat.specs.Check.{codeOk}
 use Rattle.translator.specs.declared.TranslateAnswer.{TranslateAnswer}
 use Rattle.translator.specs.Translated.{translated}
@@ -69,8 +69,8 @@ module _ {table code : List ℕ} {a : TranslateAnswer} {code′ : List ℕ} (t :
   unfolding translatedTable
   is-delivered = translates-counted table code n code′ (rw (is-counted .1) at result)
 
-  pub was-accepted : Checked table (Accepted (ins (circuit table)) (outs (circuit table)) (need (circuit table)) (firstCell table (nodes table)))
-  was-accepted = accepted-as (t .place) table (is-counted .0) (t .isLoose) (is-counted .1)
+  pub was-accepted : Checked table (Accepted (ins (circuit table)) (outs (circuit table)) (need (circuit table)) (cellsBefore (circuit table) (nodes table)))
+  was-accepted = recounted (t .place) table (is-counted .0) (t .isLoose) (is-counted .1)
 
 pub delivered : {table code : List ℕ} {a : TranslateAnswer} {code′ : List ℕ} → DeliversCode table code a code′
 unfolding translated
@@ -85,5 +85,5 @@ unfolding translated
 delivered-passes {table} t n e words =
     let p = promise (was-accepted t n e) refl words in
     let d = is-delivered t n e in
-    let s = p .small (d .short) (omega (arith, d .few, p .celled)) in
+    let s = p .small (d .short) (d .few) in
     rw (delivered t n e words) (translation-ok (nodes table) (circuit table) (p .wellFormed) (p .complete) (s .inputs) (s .outputs) (s .instructions) (s .cells))

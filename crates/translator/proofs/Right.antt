@@ -1,14 +1,10 @@
 -- The translation is right: the code of a circuit does what a tick of the walker does.
 use Prim.Native.Nat.{ℕ, zero, suc, _+_, _-_, _*_, _/_, _≤_, _<_}
 use mathlib.Core.Path.{_≡_, sym, _∙_}
-use mathlib.Core.Bool.{Bool, true, false}
 use mathlib.Core.List.{List, [], _∷_, _++_}
 use native.Mathlib.Omega.{arith}
 use lib.ListN.{length, getD, drop, take, length-append, length-drop}
 use lib.Seq.{length-take-le}
-use lib.Dec.{leb}
-use Rattle.word.proofs.OperandCounts.{operands-form}
-use Rattle.word.specs.Choice.{pick}
 use Rattle.word.specs.Operation.{add, operands}
 use Rattle.word.specs.Tick.{tick, tailOf}
 use Rattle.word.proofs.Lists.{length-tail}
@@ -18,7 +14,7 @@ use Rattle.arity.specs.Tree.{Tree, ins, outs}
 use Rattle.arity.specs.Tree.Tree.{leaf, join, ondemand}
 use Rattle.arity.specs.Tree.Primitive.{number, control, operation, delay, cable, cut}
 use Rattle.arity.specs.Tree.Composition.{sequence, parallel, split, merge, recursion}
-use Rattle.arity.specs.WellFormed.{Known, WellFormed}
+use Rattle.arity.specs.WellFormed.{WellFormed}
 use Rattle.arity.proofs.Times.{times-whole, times-least}
 use Rattle.signal.specs.Signal.{fill, sums, sumFrom, sumsFrom}
 use Rattle.calls.specs.Step.{step}
@@ -28,14 +24,6 @@ use Rattle.translator.specs.Emit.{writes, upFrom, terms, merges, emit}
 use Rattle.translator.proofs.Registers.{Holds, Reads, kept-length, kept-reads, kept-one, both-append, both-take, both-drop, both-tail, both-copies, both-at, both-head, holds-last}
 use Rattle.translator.proofs.Registers.Both.{none, more}
 use Rattle.translator.proofs.Pieces.{skip-do, Does, nothing, first-does, one-does, andThen, besides, still, reads-do, writes-do, length-reads}
-
--- an operation that is known has an input
-pub known-operands : (o : ℕ) → Known (operation o) → 0 < operands o
-known-operands o w = rw (operands-form o (w .0) (w .1)) (some (leb o 7))
-  where
-    some : (two : Bool) → 0 < pick two 2 1
-    some true = omega arith
-    some false = omega arith
 
 -- a quotient with no remainder
 pub whole : (q m b : ℕ) → q * b ≡ m → b ≤ m → suc (q - 1) * b ≡ m
@@ -73,7 +61,7 @@ module _ (base : ℕ → ℕ) (controls : List ℕ) where
   right (leaf i (number v)) xs vs n ρ cs w e k r = one-does controls e (number-works controls ρ cs v)
   right (leaf i (control s)) xs vs n ρ cs w e k r = one-does controls e (control-works controls ρ cs s)
   right (leaf i (operation o)) xs vs n ρ cs w e k r =
-      let some : 0 < operands o = known-operands o w in
+      let some : 0 < operands o = w in
       one-does controls e (operation-works controls ρ cs o (getD xs 0 0) (getD xs 1 0) (both-at 0 (omega arith) r .value) (λ two. both-at 1 (omega arith) r .value))
   right (leaf i (delay d)) xs vs n ρ cs w e k r = one-does controls e (delay-works controls ρ cs (getD xs 0 0) (getD xs 1 0) (base i) d (both-at 0 (omega arith) r .value) (both-at 1 (omega arith) r .value))
   right (leaf i cable) xs vs n ρ cs w e k r = nothing controls (more (both-at 0 (omega arith) r) none)

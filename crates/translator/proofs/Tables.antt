@@ -1,14 +1,15 @@
 -- The complete result of a translation: the instructions of the whole circuit, refusal by refusal, and what the check's answer makes of it.
-use Prim.Native.Nat.{ℕ, _+_, _-_, _*_, _≤_, _<_}
+use Prim.Native.Nat.{ℕ, _+_, _-_, _*_, _^_, _≤_, _<_}
 use mathlib.Core.Path.{_≡_, sym, ap, ap₂, _∙_}
 use mathlib.Core.List.{List, [], _∷_, _++_}
 use native.Mathlib.Nat.{zero-add}
 use native.Mathlib.Omega.{arith}
 use borrow.Author.Tests.{le-leb, lt-leb}
 use lib.Dec.{leb}
-use lib.ListN.{length, take, drop}
+use lib.ListN.{length, getD, take, drop}
 use lib.Seq.{length-sets, sets-eq}
 use Rattle.word.specs.Choice.{pick}
+use Rattle.word.proofs.Each.{words-of}
 use Rattle.refusal.specs.Answer.{Answer, count, refusedAll}
 use Rattle.refusal.specs.declared.Refusal.{Refusal}
 use Rattle.cells.specs.Cells.{store}
@@ -16,7 +17,7 @@ use Rattle.arity.specs.Tree.{ins, outs, need}
 use Rattle.arity.specs.Table.{nodes, circuit}
 use Rattle.arity.specs.Checked.{Checked, answerOf as checkOf}
 use Rattle.arity.specs.Survey.{surveyed}
-use Rattle.arity.specs.Promise.{Words, Node}
+use Rattle.arity.specs.Promise.{Node}
 use Rattle.arity.specs.declared.CheckAnswer.{CheckAnswer}
 use Rattle.arity.specs.declared.CheckAnswer.the-variants as Check
 use Rattle.arity.proofs.Promise.{promise, rows}
@@ -156,9 +157,9 @@ module _ {table shape : List ℕ} {n m k d : ℕ} (s : Counted table shape n m k
 
 -- what the check's answer makes of it
 module _ {table : List ℕ} {o : CheckAnswer} (k : Checked table o) where
-  pub counted : (shape : List ℕ) {shape′ : List ℕ} {n m i d : ℕ} → o ≡ Check.Accepted n m i d → Words table → length shape ≡ 2048 → shape′ ≡ surveyed table shape → Counted table shape′ n m i d
-  counted shape e words long s =
-      let p = promise k e words in
+  pub counted : (shape : List ℕ) {shape′ : List ℕ} {n m i d : ℕ} → o ≡ Check.Accepted n m i d → ((k : ℕ) → getD table k 0 < 2 ^ 32) → length shape ≡ 2048 → shape′ ≡ surveyed table shape → Counted table shape′ n m i d
+  counted shape e entries long s =
+      let p = promise k e (words-of table entries) in
       record {
         ready = record { few = p .most; node = p .node; row = rows shape k e long s };
         least = p .least;

@@ -4,13 +4,12 @@ use mathlib.Core.Path.{_≡_}
 use mathlib.Core.Bool.{true}
 use mathlib.Core.List.{List, _++_}
 use lib.ListN.{length, take, drop}
-use Rattle.word.specs.Tick.{Tick}
+use Rattle.word.specs.Tick.{Tick, Words}
 use Rattle.refusal.specs.Answer.{count}
 use Rattle.arity.specs.Tree.{Tree, ins, outs, need}
 use Rattle.arity.specs.Table.{nodes, circuit}
 use Rattle.arity.specs.Nodes.{Complete, cellsBefore}
 use Rattle.arity.specs.WellFormed.{WellFormed}
-use Rattle.arity.specs.Promise.{Words}
 use Rattle.calls.specs.Step.{step}
 use Rattle.flat.specs.Code.{encode, codeTick}
 use Rattle.flat.specs.Check.{codeOk}

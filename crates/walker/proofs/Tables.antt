@@ -1,8 +1,9 @@
 -- A walk of any table: what the check's answer makes of it.
-use Prim.Native.Nat.{ℕ}
+use Prim.Native.Nat.{ℕ, _^_, _<_}
 use mathlib.Core.Path.{_≡_, sym, ap, _∙_}
 use mathlib.Core.List.{List}
-use lib.ListN.{length}
+use lib.ListN.{length, getD}
+use Rattle.word.proofs.Each.{words-of}
 use Rattle.refusal.specs.Answer.{Answer}
 use Rattle.refusal.specs.declared.Refusal.{Refusal}
 use Rattle.cells.specs.Block.{ranAs}
@@ -11,7 +12,6 @@ use Rattle.arity.specs.declared.CheckAnswer.the-variants as Check
 use Rattle.arity.specs.Table.{nodes, circuit}
 use Rattle.arity.specs.Checked.{Checked, answerOf as checkOf}
 use Rattle.arity.specs.Survey.{surveyed}
-use Rattle.arity.specs.Promise.{Words}
 use Rattle.arity.proofs.Promise.{promise, rows}
 use Rattle.walker.specs.declared.WalkAnswer.{WalkAnswer}
 use Rattle.walker.specs.declared.WalkAnswer.the-variants as Walk
@@ -20,9 +20,9 @@ use Rattle.walker.specs.Walk.{answerOf, walked, walkedBy, walkedTable, W
 
 module _ {table : List ℕ} {o : CheckAnswer} (k : Checked table o) where
   -- an accepted table has been surveyed
-  pub has-survey : (shape : List ℕ) {shape′ : List ℕ} {n m i cells : ℕ} → o ≡ Check.Accepted n m i cells → Words table → length shape ≡ 2048 → shape′ ≡ surveyed table shape → Surveyed table shape′ n m cells
-  has-survey shape e words long s =
-      let p = promise k e words in
+  pub has-survey : (shape : List ℕ) {shape′ : List ℕ} {n m i cells : ℕ} → o ≡ Check.Accepted n m i cells → ((k : ℕ) → getD table k 0 < 2 ^ 32) → length shape ≡ 2048 → shape′ ≡ surveyed table shape → Surveyed table shape′ n m cells
+  has-survey shape e entries long s =
+      let p = promise k e (words-of table entries) in
       record {
         ready = record { few = p .most; node = p .node; row = rows shape k e long s };
         least = p .least;

@@ -6,6 +6,7 @@ use mathlib.Core.List.{List}
 use native.Mathlib.Omega.{arith}
 use lib.IntN.{ℤ}
 use lib.Dec.{leb}
+use Rattle.word.specs.Tick.{Words}
 use Rattle.word.specs.Choice.{pick}
 use Rattle.word.proofs.Lists.{is-most}
 use Rattle.refusal.specs.Answer.{Answer}
@@ -18,8 +19,7 @@ use Rattle.arity.specs.Table.{nodes, circuit}
 use Rattle.arity.specs.Nodes.{cellsBefore}
 use Rattle.arity.specs.Check.{checked}
 use Rattle.arity.specs.Checked.{Checked}
-use Rattle.arity.specs.Promise.{Words}
-use Rattle.arity.proofs.Promise.{promise, same-answer}
+use Rattle.arity.proofs.Promise.{promise}
 use Rattle.calls.specs.Step.{step}
 use Rattle.calls.specs.Calls.{Arguments, Refused}
 use Rattle.calls.specs.Law.{IsProgramOf}
@@ -63,7 +63,9 @@ module _ (table : List ℕ) (a : Arguments) (cells : List ℕ) (x : ℕ) (p : �
 module _ (table : List ℕ) (n m i d : ℕ) (k : Checked table (Accepted n m i d)) (words : Words table) (few : d ≤ 16384) (p : ℕ) where
   own-walk : IsProgramOf (nodes table) (circuit table) (walkOf p table)
   unfolding walkedTable walked
-  own-walk a cells = rw (same-answer k refl p, is-most (cellsBefore (circuit table) (nodes table)) 16384 (omega (arith, promise k refl words .celled)))
+  own-walk a cells =
+      let g = promise k refl words in
+      rw (g .answer p, is-most (cellsBefore (circuit table) (nodes table)) 16384 (omega (arith, g .celled)))
 
 pub walks-go-on : (table : List ℕ) → WalksGoOn table
 walks-go-on table n m i d k words few p =

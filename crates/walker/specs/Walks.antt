@@ -1,10 +1,10 @@
 -- Walks in a list of calls: what demand 2 says of them.
 use Prim.Native.Nat.{ℕ, _≤_}
 use mathlib.Core.List.{List}
+use Rattle.word.specs.Tick.{Words}
 use Rattle.arity.specs.declared.CheckAnswer.the-variants.{Accepted}
 use Rattle.arity.specs.Table.{nodes, circuit}
 use Rattle.arity.specs.Checked.{Checked}
-use Rattle.arity.specs.Promise.{Words}
 use Rattle.calls.specs.Calls.{Arguments, Call, Program}
 use Rattle.calls.specs.Law.{LawfulFromPast}
 use Rattle.calls.specs.Loads.{LawfulFromLoad}

@@ -11,8 +11,9 @@ use lib.Signed.{quotZ, remZ, ltZ, nonNeg}
 use borrow.Author.Tests.{ltb-true, ltb-false, lt-ltb, le-ltb}
 use Rattle.word.specs.Choice.{pick, bit}
 use Rattle.word.specs.Word.{value, low, within, clamp, withSign}
+use Rattle.word.specs.LowBits.{Arithmetic, exact, onWords}
 use Rattle.word.specs.Operation.{add, subtract, multiply, quotient, remainder, less, equal, absolute, negate, operate}
-use Rattle.word.proofs.Low.{opposite, low-word, low-value, low-opposite, value-small, value-large, Arithmetic, exact, onWords, keeps-low-bits}
+use Rattle.word.proofs.Low.{opposite, low-word, low-value, low-opposite, value-small, value-large, keeps-low-bits}
 
 -- "keep the low 32 bits", of the signed readings of two words
 pub word-form : (o : Arithmetic) (a b : ℕ) → a < 2 ^ 32 → b < 2 ^ 32 → low (exact o (value a) (value b)) ≡ onWords o a b % 2 ^ 32

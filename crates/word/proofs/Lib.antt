@@ -5,3 +5,4 @@ pub mod Forms
 pub mod Exceptions
 pub mod Clocks
 pub mod OperandCounts
+mod Borders

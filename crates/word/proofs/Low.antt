@@ -8,6 +8,8 @@ use lib.Dec.{ltb, lit<}
 use lib.IntN.{ℤ, pos, negsuc, negℤ, subℕ, _+ℤ_, _-ℤ_, _*ℤ_, *ℤ-comm, *ℤ-negsuc}
 use borrow.Author.Tests.{ltb-true, ltb-false, lt-ltb, le-ltb}
 use Rattle.word.specs.Word.{value, low}
+use Rattle.word.specs.LowBits.{KeepsLowBits}
+use Rattle.word.specs.LowBits.Arithmetic.{sum, difference, product}
 
 -- -w modulo 2^32
 abbrev pub opposite : ℕ → ℕ
@@ -39,25 +41,6 @@ unfolding low
 low-opposite (pos zero) = refl
 low-opposite (pos (suc n)) = omega arith
 low-opposite (negsuc n) = omega arith
-
-pub opposite-twice : (w : ℕ) → w < 2 ^ 32 → opposite (opposite w) ≡ w
-opposite-twice w h = omega arith
-
--- the operations that keep the low bits: on whole numbers, and on words
-pub data Arithmetic : Type 0 where
-  sum : Arithmetic
-  difference : Arithmetic
-  product : Arithmetic
-
-abbrev pub exact : Arithmetic → ℤ → ℤ → ℤ
-exact sum x y = x +ℤ y
-exact difference x y = x -ℤ y
-exact product x y = x *ℤ y
-
-abbrev pub onWords : Arithmetic → ℕ → ℕ → ℕ
-onWords sum a b = a + b
-onWords difference a b = a + (2 ^ 32 - b)
-onWords product a b = a * b
 
 low-sub : (a b : ℕ) → low (subℕ a b) ≡ (a + opposite (b % 2 ^ 32)) % 2 ^ 32
 low-sub a b = go (ltb a b) refl
@@ -126,8 +109,7 @@ low-product (negsuc m) (pos n) = low-swapped (pos n) (negsuc m) (low-negative (p
 low-product (negsuc m) (negsuc n) =
     low-negative (negsuc m) n (low-swapped (pos (suc n)) (negsuc m) (low-negative (pos (suc n)) m (low-positive (suc n) (suc m))))
 
--- "Sums, differences and products keep the low 32 bits": those of the result are those of the words, modulo 2^32
-pub keeps-low-bits : (o : Arithmetic) (x y : ℤ) → low (exact o x y) ≡ onWords o (low x) (low y) % 2 ^ 32
+pub keeps-low-bits : KeepsLowBits
 keeps-low-bits sum x y = low-sum x y
 keeps-low-bits difference x y = low-difference x y
 keeps-low-bits product x y = low-product x y

@@ -1,4 +1,5 @@
 pub mod Choice
 pub mod Word
+pub mod LowBits
 pub mod Operation
 pub mod Tick

@@ -109,7 +109,7 @@ pub fn operands(op: u32) -> u32
     ensures { λ r. ⌜ r ≡ operandsOf op ⌝ }
 {
     let at = op as usize;
-    if at < 10 {
+    if at < OPERANDS.len() {
         return OPERANDS[at];
     }
     0

@@ -2,7 +2,7 @@
 use mathlib.Core.Path.{sym, _∙_}
 use borrow.Author.Needs.{needs}
 use Rattle.word.specs.Operation.{add}
-use Rattle.word.proofs.Low.Arithmetic.{sum}
+use Rattle.word.specs.LowBits.Arithmetic.{sum}
 use Rattle.word.proofs.Forms.{word-form}
 use Rattle.word.proofs.add.Statement.{statement}
 use Rattle.word.proofs.add.Tie as tie

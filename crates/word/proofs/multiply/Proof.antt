@@ -5,7 +5,7 @@ use native.Mathlib.Nat.{lt-of-le-of-lt, mul-le-mul-left, mul-lt-mul-of-pos-right
 use lib.Dec.{lit<}
 use borrow.Author.Needs.{needs}
 use Rattle.word.specs.Operation.{multiply}
-use Rattle.word.proofs.Low.Arithmetic.{product}
+use Rattle.word.specs.LowBits.Arithmetic.{product}
 use Rattle.word.proofs.Forms.{word-form}
 use Rattle.word.proofs.multiply.Statement.{statement}
 use Rattle.word.proofs.multiply.Tie as tie

@@ -2,7 +2,7 @@
 use native.Mathlib.Omega.{arith}
 use borrow.Author.Needs.{needs}
 use Rattle.word.specs.Operation.{subtract}
-use Rattle.word.proofs.Low.Arithmetic.{difference}
+use Rattle.word.specs.LowBits.Arithmetic.{difference}
 use Rattle.word.proofs.Forms.{word-form}
 use Rattle.word.proofs.subtract.Statement.{statement}
 use Rattle.word.proofs.subtract.Tie as tie
