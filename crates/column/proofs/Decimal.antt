@@ -9,6 +9,8 @@ use native.Mathlib.Nat.{pow-suc}
 use borrow.Author.Tests.{ltb-false, lt-ltb, le-ltb}
 use lib.Dec.{ltb}
 use lib.ListN.{length, getD, length-append, List·getD-append}
+use Rattle.word.specs.Tick.{Each}
+use Rattle.word.proofs.Each.{each-append}
 use Rattle.column.specs.Number.{digit, digits, decimal, amount}
 
 -- the bound on the digits is of no account where it is above the number
@@ -55,12 +57,7 @@ pub record IsDigit (b : ℕ) : Type 0 where
   pub most : b < 58
 
 abbrev pub AllDigits : List ℕ → Type 0
-AllDigits [] = Unit {0}
-AllDigits (b ∷ bs) = IsDigit b × AllDigits bs
-
-all-append : (xs ys : List ℕ) → AllDigits xs → AllDigits ys → AllDigits (xs ++ ys)
-all-append [] ys p q = q
-all-append (x ∷ xs) ys p q = (p .0, all-append xs ys (p .1) q)
+AllDigits bs = Each IsDigit bs
 
 is-digit : (d : ℕ) → d < 10 → AllDigits (digit d ∷ [])
 is-digit d h = (record { least = omega arith; most = omega arith }, tt)
@@ -68,7 +65,7 @@ is-digit d h = (record { least = omega arith; most = omega arith }, tt)
 pub decimal-digits : (n : ℕ) → AllDigits (decimal n)
 decimal-digits =
     by-digits (λ n. AllDigits (decimal n)) (λ d h. rw (decimal-small d h) (is-digit d h))
-    (λ n d h g p. rw (decimal-more n d h g) (all-append (decimal n) (digit d ∷ []) p (is-digit d g)))
+    (λ n d h g p. rw (decimal-more n d h g) (each-append IsDigit (decimal n) (digit d ∷ []) p (is-digit d g)))
 
 pub amount-append : (n : ℕ) (xs ys : List ℕ) → amount n (xs ++ ys) ≡ amount (amount n xs) ys
 amount-append n [] ys = refl

@@ -15,14 +15,14 @@ use Rattle.column.specs.File.{reading, writing}
 
 -- a column is read as z exactly if it is the text of z, a 32-bit number
 abbrev pub NumberLaw : Type 0
-NumberLaw = (c : List ℕ) (z : ℤ) → (numberIn c ≡ some z) ↔ ((column (length c) z ≡ c) × (fits z ≡ true))
+NumberLaw = (text : List ℕ) (z : ℤ) → (numberIn text ≡ some z) ↔ ((column (length text) z ≡ text) × (fits z ≡ true))
 
 -- a file that is read and written again has the same bytes
 abbrev pub FileAgain : Type 0
-FileAgain = (file table out : List ℕ) (n : ℕ) → reading file table .answer ≡ count n → length file ≤ length out
-    → writing (take (3 * n) (reading file table .buffer)) out ≡ outcome (count (length file)) (file ++ drop (length file) out)
+FileAgain = (file table out : List ℕ) (nodes : ℕ) → reading file table .answer ≡ count nodes → length file ≤ length out
+    → writing (take (3 * nodes) (reading file table .buffer)) out ≡ outcome (count (length file)) (file ++ drop (length file) out)
 
 -- a table of words that is written and read again has the same numbers
 abbrev pub TableAgain : Type 0
-TableAgain = (table file buffer : List ℕ) (b : ℕ) → Words table → writing table file .answer ≡ count b → length table ≤ length buffer
-    → reading (take b (writing table file .buffer)) buffer ≡ outcome (count (length table / 3)) (table ++ drop (length table) buffer)
+TableAgain = (table file buffer : List ℕ) (bytes : ℕ) → Words table → writing table file .answer ≡ count bytes → length table ≤ length buffer
+    → reading (take bytes (writing table file .buffer)) buffer ≡ outcome (count (length table / 3)) (table ++ drop (length table) buffer)

@@ -14,8 +14,8 @@ use Rattle.listing.specs.Steps.{Full, Rows, Put, Listable}
 use Rattle.listing.proofs.Laying.{line-length, rows-length}
 
 -- a part to the end
-pub rest : (l : List ℕ) (a : ℕ) → take (length l - a) (drop a l) ≡ drop a l
-rest l a = take-all (length l - a) (drop a l) (rw (length-drop a l) (omega arith))
+pub rest : (l : List ℕ) {a b : ℕ} → a ≡ b → take (length l - a) (drop a l) ≡ drop b l
+rest l {a} {b} e = rw e (take-all (length l - b) (drop b l) (rw (length-drop b l) (omega arith)))
 
 full-five : (k : ℕ) (ws : List ℕ) → 5 * k ≤ length ws → Full 5 k ws
 full-five zero ws h = tt

@@ -75,7 +75,8 @@ inside n h x u k = ticks k (down n h x) (down n h u)
 abbrev pub outputs : Processor → (ℕ → History) → ℕ → Beam
 outputs p past t = headOr [] (p (past (suc t)))
 
--- The laws. A body sees x↓h: its own history is that of the inputs and controls as they are at the demands.
+-- The laws, for a clock that is known for n ticks, of which t have passed. A body sees x↓h: its own history is that of the inputs and controls as
+-- they are at the demands.
 abbrev pub BodySees : Type 0
 BodySees = (n : ℕ) (h : Clock) (x u : ℕ → Beam) (t : ℕ) → t ≤ n → demands (clocked t h x u) ≡ inside n h x u (demandsBefore h t)
 

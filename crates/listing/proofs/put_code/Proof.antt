@@ -1,7 +1,6 @@
 -- `listing::put_code` meets its contract: the header, the instructions, the outputs.
-use Prim.Native.Nat.{ℕ, _+_, _-_, _*_}
-use mathlib.Core.Path.{ap, _∙_}
-use lib.ListN.{length, getD, take, drop}
+use Prim.Native.Nat.{ℕ, _+_, _*_}
+use mathlib.Core.Path.{refl, ap}
 use borrow.Author.Needs.{needs}
 use Rattle.word.proofs.Each.{words-of}
 use Rattle.listing.proofs.Codes.{rest, instructions-room, outputs-room, code-put}
@@ -42,7 +41,13 @@ part-put-lines-end : tie.Need-part-put-lines-end
 part-put-lines-end c = search needs
 
 put-lines-requires : tie.Need-put-lines-requires
-put-lines-requires c κs = instructions-room _ (c .before .before .before .before .before .before .before .before .before .before .before .args .text .now) (words-of (c .before .before .before .before .before .before .before .before .before .before .before .args .code .now) (λ k. c .before .before .before .before .before .before .before .before .before .before .shared-slice-known .given k .fits)) (c .before .before .before .before .before .before .before .before .before .before .before .pre) _ _ (c .before .before .before .before .put-line .ensures) (c .before .before .before .before .before .before .before .index .result) (c .before .before .before .before .before .before .before .index .ensures) _ (rest (c .before .before .before .before .before .before .before .before .before .before .before .args .code .now) 4)
+put-lines-requires c κs =
+    let q = c .before .before .before .before in
+    let i = q .before .before .before in
+    let k = i .before .before .before in
+    let s = k .before in
+    let code = s .args .code .now in
+    instructions-room code (s .args .text .now) (words-of code (λ j. k .shared-slice-known .given j .fits)) (s .pre) _ _ (q .put-line .ensures) _ (i .index .ensures) _ (rest code refl)
 
 mul-put-lines : tie.Need-mul-put-lines
 mul-put-lines c = search needs
@@ -63,13 +68,30 @@ index-requires-2 : tie.Need-index-requires-2
 index-requires-2 c κs = search needs
 
 put-lines-requires-2 : tie.Need-put-lines-requires-2
-put-lines-requires-2 c κs = outputs-room _ (c .before .before .before .before .before .before .before .before .before .before .before .before .before .before .before .before .before .before .args .text .now) (words-of (c .before .before .before .before .before .before .before .before .before .before .before .before .before .before .before .before .before .before .args .code .now) (λ k. c .before .before .before .before .before .before .before .before .before .before .before .before .before .before .before .before .before .shared-slice-known .given k .fits)) (c .before .before .before .before .before .before .before .before .before .before .before .before .before .before .before .before .before .before .pre) _ _ (c .before .before .before .before .before .before .before .before .before .before .before .put-line .ensures) (c .before .before .before .before .before .before .before .before .before .before .before .before .before .before .index .result) (c .before .before .before .before .before .before .before .before .before .before .before .before .before .before .index .ensures) _ (rest (c .before .before .before .before .before .before .before .before .before .before .before .before .before .before .before .before .before .before .args .code .now) 4) _ _ (c .before .before .before .before .before .before .put-lines .ensures) (c .before .index2 .result) (c .before .index2 .ensures) _ (ap (λ (n : ℕ). take (length (c .before .before .before .before .before .before .before .before .before .before .before .before .before .before .before .before .before .before .args .code .now) - (4 + 5 * n)) (drop (4 + 5 * n) (c .before .before .before .before .before .before .before .before .before .before .before .before .before .before .before .before .before .before .args .code .now))) (c .before .before .before .before .before .before .before .before .before .before .before .before .before .before .index .ensures) ∙ rest (c .before .before .before .before .before .before .before .before .before .before .before .before .before .before .before .before .before .before .args .code .now) (4 + 5 * getD (c .before .before .before .before .before .before .before .before .before .before .before .before .before .before .before .before .before .before .args .code .now) 2 0))
+put-lines-requires-2 c κs =
+    let p = c .before .before .before .before .before .before in
+    let q = p .before .before .before .before .before in
+    let i = q .before .before .before in
+    let k = i .before .before .before in
+    let s = k .before in
+    let code = s .args .code .now in
+    outputs-room code (s .args .text .now) (words-of code (λ j. k .shared-slice-known .given j .fits)) (s .pre) _ _ (q .put-line .ensures) _ (i .index .ensures) _ (rest code refl)
+    _ _ (p .put-lines .ensures) _ (c .before .index2 .ensures) _ (rest code (ap (λ (n : ℕ). 4 + 5 * n) (i .index .ensures)))
 
 same-length : tie.Need-same-length
 same-length c = search needs
 
 returns : tie.Need-returns
-returns c = code-put _ (c .before .before .before .before .before .before .before .before .before .before .before .before .before .before .before .before .before .before .before .before .before .args .text .now) (words-of (c .before .before .before .before .before .before .before .before .before .before .before .before .before .before .before .before .before .before .before .before .before .args .code .now) (λ k. c .before .before .before .before .before .before .before .before .before .before .before .before .before .before .before .before .before .before .before .before .shared-slice-known .given k .fits)) (c .before .before .before .before .before .before .before .before .before .before .before .before .before .before .before .before .before .before .before .before .before .pre) _ _ (c .before .before .before .before .before .before .before .before .before .before .before .before .before .before .put-line .ensures) (c .before .before .before .before .before .before .before .before .before .before .before .before .before .before .before .before .before .index .result) (c .before .before .before .before .before .before .before .before .before .before .before .before .before .before .before .before .before .index .ensures) _ (rest (c .before .before .before .before .before .before .before .before .before .before .before .before .before .before .before .before .before .before .before .before .before .args .code .now) 4) _ _ (c .before .before .before .before .before .before .before .before .before .put-lines .ensures) (c .before .before .before .before .index2 .result) (c .before .before .before .before .index2 .ensures) _ (ap (λ (n : ℕ). take (length (c .before .before .before .before .before .before .before .before .before .before .before .before .before .before .before .before .before .before .before .before .before .args .code .now) - (4 + 5 * n)) (drop (4 + 5 * n) (c .before .before .before .before .before .before .before .before .before .before .before .before .before .before .before .before .before .before .before .before .before .args .code .now))) (c .before .before .before .before .before .before .before .before .before .before .before .before .before .before .before .before .before .index .ensures) ∙ rest (c .before .before .before .before .before .before .before .before .before .before .before .before .before .before .before .before .before .before .before .before .before .args .code .now) (4 + 5 * getD (c .before .before .before .before .before .before .before .before .before .before .before .before .before .before .before .before .before .before .before .before .before .args .code .now) 2 0)) _ _ (c .before .before .put-lines2 .ensures)
+returns c =
+    let p = c .before .before .before .before .before .before .before .before .before in
+    let q = p .before .before .before .before .before in
+    let i = q .before .before .before in
+    let k = i .before .before .before in
+    let s = k .before in
+    let code = s .args .code .now in
+    code-put code (s .args .text .now) (words-of code (λ j. k .shared-slice-known .given j .fits)) (s .pre) _ _ (q .put-line .ensures) _ (i .index .ensures) _ (rest code refl)
+    _ _ (p .put-lines .ensures) _ (c .before .before .before .before .index2 .ensures) _ (rest code (ap (λ (n : ℕ). 4 + 5 * n) (i .index .ensures)))
+    _ _ (c .before .before .put-lines2 .ensures)
 
 pub put-code-spec : {M : Type 1} → statement M
 put-code-spec =

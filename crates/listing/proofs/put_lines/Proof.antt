@@ -1,8 +1,9 @@
 -- `listing::put_lines` meets its contract: the lines that are left complete those that are put.
 use mathlib.Core.Path.{_≡_}
-use Prim.Native.Nat.{_+_, _-_}
+use Prim.Native.Nat.{_+_, _-_, _*_, _≤_}
 use native.Mathlib.Omega.{arith}
 use borrow.Author.Needs.{needs}
+use lib.ListN.{length, take, drop}
 use Rattle.word.proofs.Each.{words-of}
 use Rattle.listing.proofs.Laying.{Laying, laying-starts, laying-room, laying-next, laying-ends}
 use Rattle.listing.proofs.put_lines.Statement.{statement}
@@ -17,30 +18,37 @@ abbrev μ-loop : tie.MeasureT-loop
 loop-holds : tie.Need-loop-holds Inv-loop μ-loop
 loop-holds c = laying-starts _ _ _ _ _ (c .before .before .pre)
 
+-- the next line lies within the numbers and the text
+next-room : (c : tie.In-loop Inv-loop μ-loop) →
+    let a = c .before .before .before .before .args in
+    let l = c .before .loop in
+    (l .first + a .width ≤ length (a .numbers .now)) × (l .at + (12 * length (take (a .width) (drop (l .first) (a .numbers .now))) + 1) ≤ length (l .text))
+next-room c =
+    let s = c .before .before .before .before in
+    let a = s .args in
+    let l = c .before .loop in
+    laying-room _ (a .width) (a .count) _ (a .from) _ (words-of (a .numbers .now) (λ k. c .before .before .before .shared-slice-known .given k .fits)) (l .left) (l .first) (l .at) (c .loop-test .taken) (s .pre .room) (l .inv)
+
 add-end : tie.Need-add-end Inv-loop μ-loop
-add-end c =
-    omega (arith, laying-room _ (c .before .before .before .before .args .width) (c .before .before .before .before .args .count) _ (c .before .before .before .before .args .from) _ (words-of (c .before .before .before .before .args .numbers .now) (λ k. c .before .before .before .shared-slice-known .given k .fits)) (c .before .loop .left) (c .before .loop .first) (c .before .loop .at) (c .loop-test .taken) (c .before .before .before .before .pre .room) (c .before .loop .inv) .0)
+add-end c = omega (arith, next-room c .0)
 
 mul-put-line : tie.Need-mul-put-line Inv-loop μ-loop
-mul-put-line c =
-    omega (arith, laying-room _ (c .before .before .before .before .args .width) (c .before .before .before .before .args .count) _ (c .before .before .before .before .args .from) _ (words-of (c .before .before .before .before .args .numbers .now) (λ k. c .before .before .before .shared-slice-known .given k .fits)) (c .before .loop .left) (c .before .loop .first) (c .before .loop .at) (c .loop-test .taken) (c .before .before .before .before .pre .room) (c .before .loop .inv) .0)
+mul-put-line c = omega (arith, next-room c .0)
 
 sub-put-line : tie.Need-sub-put-line Inv-loop μ-loop
-sub-put-line c =
-    omega (arith, laying-room _ (c .before .before .before .before .args .width) (c .before .before .before .before .args .count) _ (c .before .before .before .before .args .from) _ (words-of (c .before .before .before .before .args .numbers .now) (λ k. c .before .before .before .shared-slice-known .given k .fits)) (c .before .loop .left) (c .before .loop .first) (c .before .loop .at) (c .loop-test .taken) (c .before .before .before .before .pre .room) (c .before .loop .inv) .0)
+sub-put-line c = omega (arith, next-room c .0)
 
 part-put-line-start : tie.Need-part-put-line-start Inv-loop μ-loop
-part-put-line-start c =
-    omega (arith, laying-room _ (c .before .before .before .before .args .width) (c .before .before .before .before .args .count) _ (c .before .before .before .before .args .from) _ (words-of (c .before .before .before .before .args .numbers .now) (λ k. c .before .before .before .shared-slice-known .given k .fits)) (c .before .loop .left) (c .before .loop .first) (c .before .loop .at) (c .loop-test .taken) (c .before .before .before .before .pre .room) (c .before .loop .inv) .0)
+part-put-line-start c = omega (arith, next-room c .0)
 
 part-put-line-end : tie.Need-part-put-line-end Inv-loop μ-loop
-part-put-line-end c =
-    omega (arith, laying-room _ (c .before .before .before .before .args .width) (c .before .before .before .before .args .count) _ (c .before .before .before .before .args .from) _ (words-of (c .before .before .before .before .args .numbers .now) (λ k. c .before .before .before .shared-slice-known .given k .fits)) (c .before .loop .left) (c .before .loop .first) (c .before .loop .at) (c .loop-test .taken) (c .before .before .before .before .pre .room) (c .before .loop .inv) .0)
+part-put-line-end c = omega (arith, next-room c .0)
 
 put-line-requires : tie.Need-put-line-requires Inv-loop μ-loop
 put-line-requires c κs =
-    let n : c .before .before .before .loop .first + c .before .before .before .before .before .before .args .width - c .before .before .before .loop .first ≡ c .before .before .before .before .before .before .args .width = omega arith in
-    rw n (laying-room _ (c .before .before .before .before .before .before .args .width) (c .before .before .before .before .before .before .args .count) _ (c .before .before .before .before .before .before .args .from) _ (words-of (c .before .before .before .before .before .before .args .numbers .now) (λ k. c .before .before .before .before .before .shared-slice-known .given k .fits)) (c .before .before .before .loop .left) (c .before .before .before .loop .first) (c .before .before .before .loop .at) (c .before .before .loop-test .taken) (c .before .before .before .before .before .before .pre .room) (c .before .before .before .loop .inv) .1)
+    let i = c .before .before in
+    let n : i .before .loop .first + i .before .before .before .before .args .width - i .before .loop .first ≡ i .before .before .before .before .args .width = omega arith in
+    rw n (next-room i .1)
 
 sub-left : tie.Need-sub-left Inv-loop μ-loop
 sub-left c = search needs
