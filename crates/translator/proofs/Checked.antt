@@ -11,6 +11,7 @@ use lib.Dec.{ltb}
 use Rattle.word.specs.Operation.{operands}
 use Rattle.word.specs.Tick.{headOr, tailOf}
 use Rattle.word.proofs.Lists.{both-true, is-below, length-tail}
+use Rattle.word.proofs.Each.{each-append, each-take, each-drop, each-tail}
 use Rattle.arity.specs.Tree.{Tree, ins, outs, size, need}
 use Rattle.arity.specs.Tree.Tree.{leaf, join, ondemand}
 use Rattle.arity.specs.Tree.Primitive.{number, control, operation, delay, cable, cut}
@@ -31,7 +32,7 @@ use Rattle.translator.specs.Emit.{reads, writes, upFrom, terms, merges, 
 use Rattle.translator.specs.Translated.{translation}
 use Rattle.translator.specs.Laws.{TranslationOk}
 use Rattle.translator.proofs.Registers.{Below}
-use Rattle.translator.proofs.Below.{below-more, below-append, below-take, below-drop, below-tail, below-head, below-copies, below-at, below-from}
+use Rattle.translator.proofs.Below.{below-more, below-head, below-copies, below-at, below-from}
 use Rattle.translator.proofs.Pieces.{length-reads, length-writes}
 use Rattle.translator.proofs.Right.{whole}
 use Rattle.translator.proofs.Count.{length-upFrom, terms-need, merges-need, merges-outs, emit-outs, emit-need, emit-below}
@@ -80,7 +81,7 @@ module _ (cells end : ℕ) where
       let g = merges-pass m k b (suc i) n′ xs (omega arith) l (below-more n n′ (omega arith) xs s) in
       record {
         passes = append-ok cells end n (one .code) (rest .code) (f .passes) (g .passes);
-        below = below-append top (one .results) (rest .results) (below-more (n + k) top (omega arith) (one .results) (f .below)) (below-more (n′ + m * k) top (omega arith) (rest .results) (g .below));
+        below = each-append (λ x. x < top) (one .results) (rest .results) (below-more (n + k) top (omega arith) (one .results) (f .below)) (below-more (n′ + m * k) top (omega arith) (rest .results) (g .below));
       }
 
   emit-passes : (base : ℕ → ℕ) (t : Tree) (xs : List ℕ) (n : ℕ) → WellFormed t → Placed base cells t → length xs ≡ ins t → Below n xs → n + need t ≤ end
@@ -108,8 +109,8 @@ module _ (cells end : ℕ) where
       let u : length x ≡ ins l = length-take-le (ins l) xs (omega arith) in
       let v : length y ≡ ins r = omega (arith, length-drop (ins l) xs) in
       let k : length (a .code) ≡ need l = emit-need base l x n (w .0) in
-      append-ok cells end n (a .code) _ (emit-passes base l x n (w .0) (p .1) u (below-take n (ins l) xs b) (omega arith))
-      (emit-passes base r y (n + length (a .code)) (w .1) (p .2) v (below-more n (n + length (a .code)) (omega arith) y (below-drop n (ins l) xs b)) (omega arith))
+      append-ok cells end n (a .code) _ (emit-passes base l x n (w .0) (p .1) u (each-take (λ x. x < n) (ins l) xs b) (omega arith))
+      (emit-passes base r y (n + length (a .code)) (w .1) (p .2) v (below-more n (n + length (a .code)) (omega arith) y (each-drop (λ x. x < n) (ins l) xs b)) (omega arith))
   emit-passes base (join i split l r) xs n w p e b h =
       let a = emit base l xs n in
       let x = fill (ins r) (outs l) (a .results) in
@@ -141,7 +142,7 @@ module _ (cells end : ℕ) where
       let v : length (a .results ++ xs) ≡ ins l = omega (arith, length-append (a .results) xs) in
       let k : length (a .code) ≡ need r = emit-need base r (upFrom n q) n₁ (w .1) in
       let f : Below n₂ (a .results) = rw k (emit-below base r (upFrom n q) n₁ (w .1) (length-upFrom n q) (below-from n₁ n q (omega arith))) in
-      let c : Below n₂ (a .results ++ xs) = below-append n₂ (a .results) xs f (below-more n n₂ (omega arith) xs b) in
+      let c : Below n₂ (a .results ++ xs) = each-append (λ x. x < n₂) (a .results) xs f (below-more n n₂ (omega arith) xs b) in
       let z : length (d .results) ≡ outs l = emit-outs base l (a .results ++ xs) n₂ (w .0) in
       let k′ : length (d .code) ≡ need l = emit-need base l (a .results ++ xs) n₂ (w .0) in
       let g : Below (n₂ + length (d .code)) (d .results) = rw k′ (emit-below base l (a .results ++ xs) n₂ (w .0) v c) in
@@ -150,7 +151,7 @@ module _ (cells end : ℕ) where
       (rw length-reads
       (append-ok cells end n₁ (a .code) (d .code ++ o) (emit-passes base r (upFrom n q) n₁ (w .1) (p .2) (length-upFrom n q) (below-from n₁ n q (omega arith)) (omega arith))
       (append-ok cells end n₂ (d .code) o (emit-passes base l (a .results ++ xs) n₂ (w .0) (p .1) v c (omega arith))
-      (passes-writes (base i) (take q (d .results)) (n₂ + length (d .code)) (omega (arith, length-take-le q (d .results) (omega arith))) (below-take (n₂ + length (d .code)) q (d .results) g)))))
+      (passes-writes (base i) (take q (d .results)) (n₂ + length (d .code)) (omega (arith, length-take-le q (d .results) (omega arith))) (each-take (λ x. x < n₂ + length (d .code)) q (d .results) g)))))
   emit-passes base (ondemand i t) xs n w p e b h =
       let n₁ = n + 1 in
       let a = emit base t (tailOf xs) n₁ in
@@ -158,7 +159,7 @@ module _ (cells end : ℕ) where
       let v : length (tailOf xs) ≡ ins t = length-tail (ins t) xs e in
       let k : length (a .code) ≡ need t = emit-need base t (tailOf xs) n₁ w in
       let z : length (a .results) ≡ outs t = emit-outs base t (tailOf xs) n₁ w in
-      let c : Below n₁ (tailOf xs) = below-more n n₁ (omega arith) (tailOf xs) (below-tail n xs b) in
+      let c : Below n₁ (tailOf xs) = below-more n n₁ (omega arith) (tailOf xs) (each-tail (λ x. x < n) xs b) in
       let g : Below (n₁ + length (a .code)) (a .results) = rw k (emit-below base t (tailOf xs) n₁ w v c) in
       more-ok cells end n _ ((a .code ++ o) ++ reads (base i) (outs t)) (skip-ok cells end n (headOr 0 xs) (length (a .code ++ o)) (below-head n xs (omega arith) b) (omega (arith, length-append (a .code) o, length-writes (base i) (a .results))))
       (rw (← add-one n)
