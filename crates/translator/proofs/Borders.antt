@@ -8,7 +8,6 @@ use lib.Dec.{lit<, lit≤}
 use lib.ListN.{length, take, drop-of-length-le}
 use Rattle.word.specs.Operation.{operands}
 use Rattle.word.specs.Tick.{tick, Words}
-use Rattle.word.proofs.Each.{word-at}
 use Rattle.arity.specs.Tree.{Tree, ins, outs, need}
 use Rattle.arity.specs.Tree.Tree.{leaf}
 use Rattle.arity.specs.Tree.Primitive.{delay}
@@ -62,7 +61,7 @@ unfolding translated tree operands
 integrator-code = refl
 
 integrator-words : Words integrator
-integrator-words k = word-at integrator k (lit< tt, (lit< tt, (lit< tt, (lit< tt, (lit< tt, (lit< tt, (lit< tt, (lit< tt, (lit< tt, tt)))))))))
+integrator-words = (lit< tt, (lit< tt, (lit< tt, (lit< tt, (lit< tt, (lit< tt, (lit< tt, (lit< tt, (lit< tt, tt)))))))))
 
 integrator-delivered : {code code′ : List ℕ} → Translates integrator code (Numbers 20) code′ → take 20 code′ ≡ printed
 integrator-delivered t = delivered t 20 refl integrator-words ∙ integrator-code
