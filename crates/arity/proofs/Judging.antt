@@ -1,11 +1,10 @@
 -- One node: the tests on the marks and the rows decide its refusal, and the rows give its counts.
-use Prim.Native.Nat.{ℕ, zero, suc, _≤_, _<_}
+use Prim.Native.Nat.{ℕ, suc, _≤_, _<_}
 use mathlib.Core.Path.{_≡_, refl, sym, ap, ap₂, _∙_}
 use mathlib.Core.Bool.{Bool, true, false, not, _&&_}
-use mathlib.Core.List.{List, [], _∷_}
+use mathlib.Core.List.{List}
 use native.Mathlib.Omega.{arith}
 use native.Mathlib.Decide.{decLe, decLt, ℕ-discrete}
-use lib.ListN.{getD}
 use lib.Dec.{eqb, leb, ltb}
 use borrow.Author.Tests.{eqb-true, leb-true, not-true, not-false, le-leb, lt-leb, le-ltb}
 use Rattle.word.specs.Choice.{pick, bit}
@@ -22,7 +21,6 @@ use Rattle.arity.specs.Survey.{rowOf, rowAt}
 use Rattle.arity.specs.Steps.{countsOf, ruleOf, over, Joins, Modest, Joinable, State, freeIn, childrenIn, Branching, Refuses}
 use Rattle.arity.specs.declared.counts.Counts.{Counts}
 use Rattle.arity.specs.declared.rows.Row.{Row}
-use Rattle.arity.proofs.Tests.{and-left, and-right}
 use Rattle.arity.proofs.ByKind.{rule-other}
 use Rattle.arity.proofs.Taken.{children-of}
 use Rattle.arity.proofs.Trees.{View, view}

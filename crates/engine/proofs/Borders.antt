@@ -4,7 +4,6 @@ use mathlib.Core.Path.{_≡_, refl}
 use mathlib.Core.List.{List}
 use native.Mathlib.Omega.{arith}
 use lib.IntN.{ℤ}
-use lib.Dec.{lit<}
 use Rattle.word.specs.Tick.{Words}
 use Rattle.refusal.specs.Answer.{count}
 use Rattle.refusal.specs.Answer.Answer.{refused}
@@ -12,7 +11,7 @@ use Rattle.cells.specs.Load.{loaded}
 use Rattle.arity.specs.declared.CheckAnswer.the-variants.{Accepted}
 use Rattle.arity.specs.Table.{nodes, circuit}
 use Rattle.arity.specs.Checked.{Checked}
-use Rattle.arity.proofs.Borders.{integrator, integrator-accepted}
+use Rattle.arity.proofs.Borders.{integrator, integrator-accepted, integrator-words}
 use Rattle.calls.specs.Calls.{Arguments, Element, OthersRefused}
 use Rattle.calls.specs.Law.{LawfulThroughout}
 use Rattle.translator.specs.Translated.{translated}
@@ -34,8 +33,5 @@ module _ (table : List ℕ) (n m : ℕ) (k : Checked table (Accepted n m 2048 16
   largest-no-13 = no-13 table _ n m 2048 16384 k refl words (omega arith) (omega arith)
 
 -- the integrator, and a load that named its one cell
-integrator-words : Words integrator
-integrator-words = (lit< tt, (lit< tt, (lit< tt, (lit< tt, (lit< tt, (lit< tt, (lit< tt, (lit< tt, (lit< tt, tt)))))))))
-
 pub integrator-lawful : LawfulRuns integrator 1
 integrator-lawful cells f = demand-3 integrator _ 1 1 3 1 integrator-accepted refl integrator-words (omega arith) (omega arith) 1 cells f (omega arith)
