@@ -9,6 +9,7 @@ use lib.Dec.{lit<, lit≤}
 use borrow.Author.Tests.{not-true, le-ltb}
 use Rattle.word.specs.Operation.{operands}
 use Rattle.word.specs.Tick.{zeros, Words}
+use Rattle.word.proofs.Each.{words-by}
 use Rattle.refusal.specs.Answer.{refusedAt}
 use Rattle.refusal.specs.Answer.Answer.{counts}
 use Rattle.arity.specs.Tree.{Tree, ins, outs, need, size}
@@ -122,9 +123,12 @@ fuller = refl
 abbrev pub fourDelays : List ℕ
 fourDelays = 4 ∷ 4095 ∷ 0 ∷ 4 ∷ 4095 ∷ 0 ∷ 8 ∷ 0 ∷ 1 ∷ 4 ∷ 4095 ∷ 0 ∷ 4 ∷ 4095 ∷ 0 ∷ 8 ∷ 3 ∷ 4 ∷ 8 ∷ 2 ∷ 5 ∷ []
 
-pub four-delays : Checked fourDelays (Accepted 8 4 4 16384)
+pub four-delays-accepted : Checked fourDelays (Accepted 8 4 4 16384)
 unfolding checked nodeByNode refusalAt childrenFree taken ruleFits tree treeAt ins outs need size sumTo
-four-delays = computed fourDelays 8 4 4 16384 refl refl
+four-delays-accepted = computed fourDelays 8 4 4 16384 refl refl
+
+pub four-delays-words : Words fourDelays
+four-delays-words = words-by fourDelays refl
 
 -- an addition in a loop through a cable
 abbrev pub integrator : List ℕ
@@ -133,6 +137,9 @@ integrator = 3 ∷ 1 ∷ 0 ∷ 5 ∷ 0 ∷ 0 ∷ 11 ∷ 0 ∷ 1 ∷ []
 pub integrator-accepted : Checked integrator (Accepted 1 1 3 1)
 unfolding checked nodeByNode refusalAt childrenFree taken ruleFits tree treeAt ins outs need size sumTo operands
 integrator-accepted = computed integrator 1 1 3 1 refl refl
+
+pub integrator-words : Words integrator
+integrator-words = words-by integrator refl
 
 -- the promise with 2,048 instructions and 16,384 cells
 module _ (t : List ℕ) (n m : ℕ) (k : Checked t (Accepted n m 2048 16384)) (words : Words t) where
@@ -151,6 +158,9 @@ module _ (t : List ℕ) (n m : ℕ) (k : Checked t (Accepted n m 2048 16384)) (w
   largest-answer = promise k refl words .answer
 
 -- and with the largest word
-largest-number : WellFormed (circuit (1 ∷ 4294967295 ∷ 0 ∷ []))
+abbrev minusOne : List ℕ
+minusOne = 1 ∷ 4294967295 ∷ 0 ∷ []
+
+largest-number : WellFormed (circuit minusOne)
 unfolding checked nodeByNode refusalAt childrenFree taken ruleFits tree treeAt ins outs need size sumTo
-largest-number = promise (computed (1 ∷ 4294967295 ∷ 0 ∷ []) 0 1 1 0 refl refl) refl (lit< tt, (lit< tt, (lit< tt, tt))) .wellFormed
+largest-number = promise (computed minusOne 0 1 1 0 refl refl) refl (words-by minusOne refl) .wellFormed

@@ -59,7 +59,7 @@ child-taken t (suc i) j c h k = go (ℕ-discrete j i) (child-taken t i j c)
     go (no n) f = or-right (names t i c) (taken t i c) (f (omega arith) k)
 
 -- free: lower, and new
-pub is-free : (t : List ℕ) (i c : ℕ) → free t i c ≡ true → Free t i c
+is-free : (t : List ℕ) (i c : ℕ) → free t i c ≡ true → Free t i c
 is-free t i c e =
     record {
       lower = ltb-true c i (and-left (ltb c i) (not (taken t i c)) e);

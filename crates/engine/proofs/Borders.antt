@@ -4,8 +4,8 @@ use mathlib.Core.Path.{_≡_, refl}
 use mathlib.Core.List.{List, [], _∷_}
 use native.Mathlib.Omega.{arith}
 use lib.IntN.{ℤ}
-use lib.Dec.{lit<}
 use Rattle.word.specs.Tick.{Words}
+use Rattle.word.proofs.Each.{words-by}
 use Rattle.refusal.specs.Answer.{count}
 use Rattle.refusal.specs.Answer.Answer.{refused}
 use Rattle.cells.specs.Load.{loaded}
@@ -15,7 +15,7 @@ use Rattle.arity.specs.Table.{nodes, circuit, tree, treeAt}
 use Rattle.arity.specs.Nodes.{sumTo}
 use Rattle.arity.specs.Check.{checked, nodeByNode, refusalAt, childrenFree, taken, ruleFits}
 use Rattle.arity.specs.Checked.{Checked}
-use Rattle.arity.proofs.Borders.{computed, fourDelays, four-delays, integrator, integrator-accepted}
+use Rattle.arity.proofs.Borders.{computed, fourDelays, four-delays-accepted, four-delays-words, integrator, integrator-accepted, integrator-words}
 use Rattle.signal.specs.Signal.{History}
 use Rattle.calls.specs.Calls.{Arguments, Element, OthersRefused}
 use Rattle.calls.specs.Law.{HoldsPast, LawfulThroughout}
@@ -49,17 +49,10 @@ module _ (table : List ℕ) (n m : ℕ) (k : Checked table (Accepted n m 2048 16
   largest-no-13 = no-13 table 16384 largest
 
 -- "Four delays of D 4095 fit 16,384 cells"
-four-delays-words : Words fourDelays
-four-delays-words =
-    (lit< tt, (lit< tt, (lit< tt, (lit< tt, (lit< tt, (lit< tt, (lit< tt, (lit< tt, (lit< tt, (lit< tt, (lit< tt, (lit< tt, (lit< tt, (lit< tt, (lit< tt, (lit< tt, (lit< tt, (lit< tt, (lit< tt, (lit< tt, (lit< tt, tt)))))))))))))))))))))
-
 four-delays-lawful : LawfulRuns fourDelays 16384
-four-delays-lawful cells e = demand-3 fourDelays 16384 (runnable fourDelays 8 4 4 16384 four-delays four-delays-words (omega arith) (omega arith)) 16384 cells e (omega arith)
+four-delays-lawful cells e = demand-3 fourDelays 16384 (runnable fourDelays 8 4 4 16384 four-delays-accepted four-delays-words (omega arith) (omega arith)) 16384 cells e (omega arith)
 
 -- the integrator, and a load that named its one cell
-integrator-words : Words integrator
-integrator-words = (lit< tt, (lit< tt, (lit< tt, (lit< tt, (lit< tt, (lit< tt, (lit< tt, (lit< tt, (lit< tt, tt)))))))))
-
 pub integrator-lawful : LawfulRuns integrator 1
 integrator-lawful cells e = demand-3 integrator 1 (runnable integrator 1 1 3 1 integrator-accepted integrator-words (omega arith) (omega arith)) 1 cells e (omega arith)
 
@@ -73,4 +66,4 @@ on-demand-accepted = computed onDemand 2 1 3 1 refl refl
 
 pub on-demand-lawful : LawfulRuns onDemand 1
 on-demand-lawful cells e =
-    demand-3 onDemand 1 (runnable onDemand 2 1 3 1 on-demand-accepted (lit< tt, (lit< tt, (lit< tt, (lit< tt, (lit< tt, (lit< tt, tt)))))) (omega arith) (omega arith)) 1 cells e (omega arith)
+    demand-3 onDemand 1 (runnable onDemand 2 1 3 1 on-demand-accepted (words-by onDemand refl) (omega arith) (omega arith)) 1 cells e (omega arith)

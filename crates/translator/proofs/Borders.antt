@@ -4,16 +4,17 @@ use mathlib.Core.Path.{_≡_, refl, ap, _∙_}
 use mathlib.Core.Bool.{true}
 use mathlib.Core.List.{List, [], _∷_, _++_, append-nil}
 use native.Mathlib.Omega.{arith}
-use lib.Dec.{lit<, lit≤}
+use lib.Dec.{lit≤}
 use lib.ListN.{length, take, drop-of-length-le}
 use Rattle.word.specs.Operation.{operands}
-use Rattle.word.specs.Tick.{tick, Words}
+use Rattle.word.specs.Tick.{tick}
 use Rattle.arity.specs.Tree.{Tree, ins, outs, need}
 use Rattle.arity.specs.Tree.Tree.{leaf}
 use Rattle.arity.specs.Tree.Primitive.{delay}
 use Rattle.arity.specs.Table.{tree}
 use Rattle.arity.specs.Nodes.{Complete, cellsBefore}
 use Rattle.arity.specs.WellFormed.{WellFormed}
+use Rattle.arity.proofs.Borders.{integrator, integrator-words}
 use Rattle.calls.specs.Step.{step}
 use Rattle.flat.specs.Code.{encode, decode, codeTick}
 use Rattle.flat.specs.Check.{instructionOk, instructionsOk, codeOk}
@@ -43,10 +44,7 @@ exact-delivered {table} {code} t =
     let d = is-delivered t (length code) refl in
     d .is ∙ ap (λ l. translated table ++ l) (drop-of-length-le code {i = numbersOf table} (omega (arith, d .counted))) ∙ append-nil (translated table)
 
--- the integrator and its code, as the document prints them
-abbrev integrator : List ℕ
-integrator = 3 ∷ 1 ∷ 0 ∷ 5 ∷ 0 ∷ 0 ∷ 11 ∷ 0 ∷ 1 ∷ []
-
+-- the integrator's code, as the document prints it
 abbrev printed : List ℕ
 printed =
     1 ∷ 1 ∷ 3 ∷ 1
@@ -59,9 +57,6 @@ printed =
 integrator-code : translated integrator ≡ printed
 unfolding translated tree operands
 integrator-code = refl
-
-integrator-words : Words integrator
-integrator-words = (lit< tt, (lit< tt, (lit< tt, (lit< tt, (lit< tt, (lit< tt, (lit< tt, (lit< tt, (lit< tt, tt)))))))))
 
 integrator-delivered : {code code′ : List ℕ} → Translates integrator code (Numbers 20) code′ → take 20 code′ ≡ printed
 integrator-delivered t = delivered t 20 refl integrator-words ∙ integrator-code

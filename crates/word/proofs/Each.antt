@@ -1,9 +1,14 @@
 -- What holds of each element of a list, and words.
 use Prim.Native.Nat.{ℕ, zero, suc, _<_, _^_}
+use mathlib.Core.Path.{_≡_}
+use mathlib.Core.Bool.{Bool, true}
 use mathlib.Core.List.{List, [], _∷_, _++_, map}
-use lib.Dec.{lit<}
+use lib.Dec.{ltb, lit<}
 use lib.ListN.{getD, take, drop}
+use borrow.Author.Tests.{ltb-true}
+use Rattle.word.specs.Choice.{_and_}
 use Rattle.word.specs.Tick.{Each, Words, zeros, headOr, tailOf}
+use Rattle.word.proofs.Lists.{first-true, second-true}
 
 module _ {A : Type 0} (P : A → Type 0) where
   pub each-append : (xs ys : List A) → Each P xs → Each P ys → Each P (xs ++ ys)
@@ -41,11 +46,24 @@ pub each-map : {A B : Type 0} (P : A → Type 0) (Q : B → Type 0) (f : A → B
 each-map P Q f g [] p = tt
 each-map P Q f g (x ∷ xs) (p, ps) = (g x p, each-map P Q f g xs ps)
 
+-- a test that holds of each, computed over the list
+abbrev pub every : {A : Type 0} → (A → Bool) → List A → Bool
+every f [] = true
+every f (x ∷ xs) = f x and every f xs
+
+pub each-every : {A : Type 0} (P : A → Type 0) (f : A → Bool) → ((x : A) → f x ≡ true → P x) → (xs : List A) → every f xs ≡ true → Each P xs
+each-every P f g [] e = tt
+each-every P f g (x ∷ xs) e = (g x (first-true (f x) (every f xs) e), each-every P f g xs (second-true (f x) (every f xs) e))
+
 pub word-at : (xs : List ℕ) (k : ℕ) → Words xs → getD xs k 0 < 2 ^ 32
 word-at xs k w = each-at (λ x. x < 2 ^ 32) 0 xs k (lit< tt) w
 
 pub words-of : (xs : List ℕ) → ((k : ℕ) → getD xs k 0 < 2 ^ 32) → Words xs
 words-of xs f = each-of (λ x. x < 2 ^ 32) 0 xs f
+
+-- by computation
+pub words-by : (xs : List ℕ) → every (λ x. ltb x (2 ^ 32)) xs ≡ true → Words xs
+words-by xs e = each-every (λ x. x < 2 ^ 32) (λ x. ltb x (2 ^ 32)) (λ x h. ltb-true x (2 ^ 32) h) xs e
 
 pub words-zeros : (n : ℕ) → Words (zeros n)
 words-zeros zero = tt

@@ -45,7 +45,7 @@ magnitude-word w h = go (ltb w (2 ^ 31)) refl
     go true e = let l : w < 2 ^ 31 = ltb-true w (2 ^ 31) e in rw (magnitude-small w l) (omega arith)
     go false e = let l : 2 ^ 31 ≤ w = ltb-false w (2 ^ 31) e in rw (magnitude-large w l h) (omega arith)
 
-pub absolute-magnitude : (w : ℕ) → w < 2 ^ 32 → absolute w ≡ natAbs (value w)
+absolute-magnitude : (w : ℕ) → w < 2 ^ 32 → absolute w ≡ natAbs (value w)
 unfolding absolute low
 absolute-magnitude w h = mod-eq-of-lt (lt-of-le-of-lt (magnitude-word w h) (lit< tt))
 

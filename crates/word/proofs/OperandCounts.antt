@@ -1,37 +1,23 @@
 -- The rules of the table of operand counts: which numbers are operations, and how many inputs they have at most. One test over the table shows the
 -- latter of every entry.
 use Prim.Native.Nat.{ℕ, zero, suc, _≤_, _<_}
-use mathlib.Core.Path.{_≡_, refl}
-use mathlib.Core.Bool.{Bool, true}
-use mathlib.Core.List.{List, [], _∷_}
+use mathlib.Core.Path.{refl}
 use native.Mathlib.Omega.{arith}
 use native.Mathlib.Decide.{decLt}
-use lib.Dec.{leb}
-use lib.ListN.{length, getD, List·getD-eq-default}
+use lib.Dec.{leb, lit≤}
+use lib.ListN.{length, List·getD-eq-default}
 use borrow.Author.Tests.{leb-true}
-use Rattle.word.specs.Choice.{_and_}
 use Rattle.word.specs.Operation.{operandTable, operands}
-use Rattle.word.proofs.Lists.{first-true, second-true}
-
--- is no entry above b?
-noneAbove : ℕ → List ℕ → Bool
-noneAbove b [] = true
-noneAbove b (x ∷ xs) = leb x b and noneAbove b xs
-
-entry-most : (b : ℕ) (xs : List ℕ) → noneAbove b xs ≡ true → (k : ℕ) → getD xs k 0 ≤ b
-unfolding noneAbove
-entry-most b [] e k = omega arith
-entry-most b (x ∷ xs) e zero = leb-true x b (first-true (leb x b) (noneAbove b xs) e)
-entry-most b (x ∷ xs) e (suc k) = entry-most b xs (second-true (leb x b) (noneAbove b xs) e) k
+use Rattle.word.proofs.Each.{each-at, each-every}
 
 pub operands-most : (o : ℕ) → operands o ≤ 2
-unfolding operands noneAbove
-operands-most o = entry-most 2 operandTable refl o
+unfolding operands
+operands-most o = each-at (λ x. x ≤ 2) 0 operandTable o (lit≤ tt) (each-every (λ x. x ≤ 2) (λ x. leb x 2) (λ x h. leb-true x 2 h) operandTable refl)
 
 -- an operation stands in the table, behind its first entry
 pub in-table : (o : ℕ) → 0 < operands o → (0 < o) × (o < length operandTable)
 unfolding operands
-in-table zero h = (h, absurd (omega arith))
+in-table zero h = absurd (omega arith)
 in-table (suc o) h = (omega arith, go (decLt (suc o) (length operandTable)))
   where
     go : Dec (suc o < length operandTable) → suc o < length operandTable
