@@ -1,7 +1,7 @@
 -- A code that is read number by number: what its check says of the header, of one instruction after another, and of the output registers.
 use Prim.Native.Nat.{ℕ, suc, _+_, _-_, _≤_, _<_}
 use mathlib.Core.Path.{_≡_, refl, sym, ap, _∙_}
-use mathlib.Core.Bool.{Bool, true, false, false≢true}
+use mathlib.Core.Bool.{Bool, true, false}
 use mathlib.Core.List.{List, _∷_}
 use native.Mathlib.Nat.{add-zero}
 use native.Mathlib.Numerals.{add-one}
@@ -22,11 +22,11 @@ and-false true = refl
 and-false false = refl
 
 -- the parts of a conjunction that holds
+pub two : (a b c : Bool) → a and b and c ≡ true → (a ≡ true) × (b ≡ true)
+two a b c h = (first-true a _ h, first-true b c (second-true a _ h))
+
 pub four : (a b c d : Bool) → a and b and c and d ≡ true → (a ≡ true) × ((b ≡ true) × ((c ≡ true) × (d ≡ true)))
-four true true true d h = (refl, (refl, (refl, h)))
-four true true false d h = absurd (false≢true h)
-four true false c d h = absurd (false≢true h)
-four false b c d h = absurd (false≢true h)
+four a b c d h = let t = second-true b _ (second-true a _ h) in let p = two a b _ h in (p .0, (p .1, (first-true c d t, second-true c d t)))
 
 pub header-says : (xs : List ℕ) → headerOk xs ≡ true → Header xs
 header-says xs e =

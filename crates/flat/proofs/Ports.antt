@@ -11,10 +11,10 @@ use lib.Dec.{ltb}
 use lib.ListN.{length, getD, set, take, drop, drop-of-length-le}
 use lib.Seq.{take-suc, take-suc-set, drop-cons, getD-take, take-all}
 use Rattle.word.specs.Choice.{_and_}
-use Rattle.word.specs.Tick.{Tick, tick, stepped}
+use Rattle.word.specs.Tick.{tick, stepped}
 use Rattle.word.proofs.Lists.{first-true, second-true, both-true}
 use Rattle.flat.specs.Flat.{machine, execute, held}
-use Rattle.flat.specs.Code.{Code, header, resultsAt, instructionsOf, inputCount, outputCount, instructionCount, decode, codeTick}
+use Rattle.flat.specs.Code.{header, resultsAt, instructionsOf, inputCount, outputCount, instructionCount, decode, codeTick}
 use Rattle.flat.specs.Check.{allBelow}
 use Rattle.flat.specs.Steps.{Checked}
 use Rattle.flat.proofs.Decoded.{code-results, results-all, below-step}
@@ -70,17 +70,12 @@ gathered code from ρ ys i g h l =
     let n : drop (from + i) code ≡ [] = drop-of-length-le code {i = from + i} l in
     sym (take-all i ys h) ∙ sym (append-nil (take i ys)) ∙ ap (λ rs. take i ys ++ held ρ rs) (sym n) ∙ g .same
 
--- a tick opened, of any code and of the code that numbers stand for
-pub tick-opened : (k : Code) (f : Tick) (cs : List ℕ) → codeTick k f cs
-    ≡ stepped (held (execute (f .controls) (k .instructions) (machine (f .inputs) 0 cs) .registers) (k .results)) (execute (f .controls) (k .instructions) (machine (f .inputs) 0 cs) .cells)
-unfolding codeTick
-tick-opened k f cs = refl
-
+-- a tick of the code that numbers stand for, opened
 decoded-tick : (code xs controls cs : List ℕ) → codeTick (decode code) (tick xs controls) cs
     ≡ stepped (held (execute controls (instructionsOf (instructionCount code) (drop header code)) (machine xs 0 cs) .registers) (take (outputCount code) (drop (resultsAt (instructionCount code)) code)))
     (execute controls (instructionsOf (instructionCount code) (drop header code)) (machine xs 0 cs) .cells)
-unfolding decode
-decoded-tick code xs controls cs = tick-opened (decode code) (tick xs controls) cs
+unfolding decode codeTick
+decoded-tick code xs controls cs = refl
 
 -- inputs put, instructions executed, outputs gathered: a tick
 pub ticked : (code xs controls cs ρ₁ ρ₂ cs₂ ys : List ℕ) → Checked code → take (inputCount code) ρ₁ ≡ xs

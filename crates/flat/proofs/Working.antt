@@ -10,11 +10,12 @@ use lib.ListN.{length, getD, take}
 use lib.Seq.{getD-take}
 use Rattle.word.specs.Choice.{_and_, pick}
 use Rattle.word.specs.Operation.{operate, operandTable, operands, demand}
+use Rattle.word.proofs.Lists.{first-true}
 use Rattle.word.proofs.OperandCounts.{in-table}
-use Rattle.flat.specs.Flat.{Instruction, instruction, effect, worked}
+use Rattle.flat.specs.Flat.{Instruction, effect, worked}
 use Rattle.flat.specs.Check.{instructionOk}
 use Rattle.flat.specs.Steps.{Workable}
-use Rattle.flat.proofs.Decoded.{four}
+use Rattle.flat.proofs.Decoded.{two, four}
 use Rattle.flat.proofs.Effects.{second-unused}
 
 pub operate-pick : (op x y : ℕ) → operate op x (pick (eqb (operands op) 2) y 0) ≡ operate op x y
@@ -42,86 +43,87 @@ either k n p q = go (eqb k n) refl
     go false e = q e
 
 -- a code that passes is one of the table's
-pub row : (cells end r k a b c d : ℕ) → instructionOk cells end r (instruction k a b c d) ≡ true → Row k
+pub row : (cells end r : ℕ) (x : Instruction) → instructionOk cells end r x ≡ true → Row (x .code)
 unfolding instructionOk
-row cells end r k a b c d h =
+row cells end r x h =
+    let k : ℕ = x .code in
     either k 1 number (λ n1. either k 2 control (λ n2. either k 3 operation (λ n3. either k 4 delay (λ n4. either k 5 read (λ n5. either k 6 write (λ n6. either k 7 skip (λ n7.
     absurd (false≢true (simp (n1, n2, n3, n4, n5, n6, n7) at h)))))))))
 
 -- what the check says, row by row
-module _ (cells end r k a b c d : ℕ) (h : instructionOk cells end r (instruction k a b c d) ≡ true) where
-  says2 : k ≡ 2 → a < 16
+module _ (cells end r : ℕ) (x : Instruction) (h : instructionOk cells end r x ≡ true) where
+  says2 : x .code ≡ 2 → x .a < 16
   unfolding instructionOk
-  says2 e = ltb-true _ _ (four (ltb a 16) (eqb b 0) (eqb c 0) (eqb d 0) (rw e at h) .0)
+  says2 e = ltb-true _ _ (first-true (ltb (x .a) 16) _ (rw e at h))
 
-  says-op : k ≡ 3 → 0 < operands a
+  says-op : x .code ≡ 3 → 0 < operands (x .a)
   unfolding instructionOk
-  says-op e = ltb-true _ _ (four (ltb 0 (operands a)) (ltb b r) (pick (eqb (operands a) 2) (ltb c r) (eqb c 0)) (eqb d 0) (rw e at h) .0)
+  says-op e = ltb-true _ _ (first-true (ltb 0 (operands (x .a))) _ (rw e at h))
 
-  says3 : k ≡ 3 → (b < r) × (c < r)
+  says3 : x .code ≡ 3 → (x .b < r) × (x .c < r)
   unfolding instructionOk
   says3 e =
-      let q = four (ltb 0 (operands a)) (ltb b r) (pick (eqb (operands a) 2) (ltb c r) (eqb c 0)) (eqb d 0) (rw e at h) in
-      let l : b < r = ltb-true _ _ (q .1 .0) in
-      (l, go (eqb (operands a) 2) l (q .1 .1 .0))
+      let q = four (ltb 0 (operands (x .a))) (ltb (x .b) r) (pick (eqb (operands (x .a)) 2) (ltb (x .c) r) (eqb (x .c) 0)) (eqb (x .d) 0) (rw e at h) in
+      let l : x .b < r = ltb-true _ _ (q .1 .0) in
+      (l, go (eqb (operands (x .a)) 2) l (q .1 .1 .0))
     where
-      go : (t : Bool) → b < r → pick t (ltb c r) (eqb c 0) ≡ true → c < r
-      go true l e = ltb-true c r e
-      go false l e = omega (arith, eqb-true c 0 e)
+      go : (t : Bool) → x .b < r → pick t (ltb (x .c) r) (eqb (x .c) 0) ≡ true → x .c < r
+      go true l e = ltb-true (x .c) r e
+      go false l e = omega (arith, eqb-true (x .c) 0 e)
 
-  says4 : k ≡ 4 → (a < r) × ((b < r) × ((d ≤ 4095) × (c + suc d ≤ cells)))
+  says4 : x .code ≡ 4 → (x .a < r) × ((x .b < r) × ((x .d ≤ 4095) × (x .c + suc (x .d) ≤ cells)))
   unfolding instructionOk
   says4 e =
-      let q = four (ltb a r) (ltb b r) (leb d 4095) (leb (c + suc d) cells) (rw e at h) in
+      let q = four (ltb (x .a) r) (ltb (x .b) r) (leb (x .d) 4095) (leb (x .c + suc (x .d)) cells) (rw e at h) in
       (ltb-true _ _ (q .0), (ltb-true _ _ (q .1 .0), (leb-true _ _ (q .1 .1 .0), leb-true _ _ (q .1 .1 .1))))
 
-  says5 : k ≡ 5 → a < cells
+  says5 : x .code ≡ 5 → x .a < cells
   unfolding instructionOk
-  says5 e = ltb-true _ _ (four (ltb a cells) (eqb b 0) (eqb c 0) (eqb d 0) (rw e at h) .0)
+  says5 e = ltb-true _ _ (first-true (ltb (x .a) cells) _ (rw e at h))
 
-  says6 : k ≡ 6 → (a < cells) × (b < r)
+  says6 : x .code ≡ 6 → (x .a < cells) × (x .b < r)
   unfolding instructionOk
   says6 e =
-      let q = four (ltb a cells) (ltb b r) (eqb c 0) (eqb d 0) (rw e at h) in
-      (ltb-true _ _ (q .0), ltb-true _ _ (q .1 .0))
+      let q = two (ltb (x .a) cells) (ltb (x .b) r) _ (rw e at h) in
+      (ltb-true _ _ (q .0), ltb-true _ _ (q .1))
 
-  says7 : k ≡ 7 → (a < r) × (suc (r + b) ≤ end)
+  says7 : x .code ≡ 7 → (x .a < r) × (suc (r + x .b) ≤ end)
   unfolding instructionOk
   says7 e =
-      let q = four (ltb a r) (leb (suc (r + b)) end) (eqb c 0) (eqb d 0) (rw e at h) in
-      (ltb-true _ _ (q .0), leb-true _ _ (q .1 .0))
+      let q = two (ltb (x .a) r) (leb (suc (r + x .b)) end) _ (rw e at h) in
+      (ltb-true _ _ (q .0), leb-true _ _ (q .1))
 
 -- "a register .. not below the instruction's own": what lies from there on makes no difference
 pub works-below : (cells end r : ℕ) (controls : List ℕ) (x : Instruction) (ρ cs : List ℕ) → instructionOk cells end r x ≡ true → worked controls x (take r ρ) cs ≡ worked controls x ρ cs
 unfolding worked
-works-below cells end r controls x ρ cs h = go (x .a) (x .b) (x .c) (x .d) (row cells end r (x .code) (x .a) (x .b) (x .c) (x .d) h) h
+works-below cells end r controls x ρ cs h = go refl (row cells end r x h)
   where
-    go : {k : ℕ} (a b c d : ℕ) → Row k → instructionOk cells end r (instruction k a b c d) ≡ true → worked controls (instruction k a b c d) (take r ρ) cs ≡ worked controls (instruction k a b c d) ρ cs
-    go a b c d number h = refl
-    go a b c d control h = refl
-    go a b c d operation h = let o = says3 cells end r 3 a b c d h refl in rw (getD-take r ρ b 0 (o .0), getD-take r ρ c 0 (o .1))
-    go a b c d delay h = let o = says4 cells end r 4 a b c d h refl in rw (getD-take r ρ a 0 (o .0), getD-take r ρ b 0 (o .1 .0))
-    go a b c d read h = refl
-    go a b c d write h = rw (getD-take r ρ b 0 (says6 cells end r 6 a b c d h refl .1))
-    go a b c d skip h = rw (getD-take r ρ a 0 (says7 cells end r 7 a b c d h refl .0))
+    go : {k : ℕ} → x .code ≡ k → Row k → worked controls x (take r ρ) cs ≡ worked controls x ρ cs
+    go e number = rw e
+    go e control = rw e
+    go e operation = let o = says3 cells end r x h e in rw (e, getD-take r ρ (x .b) 0 (o .0), getD-take r ρ (x .c) 0 (o .1))
+    go e delay = let o = says4 cells end r x h e in rw (e, getD-take r ρ (x .a) 0 (o .0), getD-take r ρ (x .b) 0 (o .1 .0))
+    go e read = rw e
+    go e write = rw (e, getD-take r ρ (x .b) 0 (says6 cells end r x h e .1))
+    go e skip = rw (e, getD-take r ρ (x .a) 0 (says7 cells end r x h e .0))
 
 -- not "past the end": what it skips lies before the end
 pub skips-inside : (cells end r : ℕ) (controls : List ℕ) (x : Instruction) (ρ cs : List ℕ) → instructionOk cells end r x ≡ true → r < end → r + (1 + worked controls x ρ cs .skip) ≤ end
 unfolding worked
-skips-inside cells end r controls x ρ cs h l = go (x .a) (x .b) (x .c) (x .d) (row cells end r (x .code) (x .a) (x .b) (x .c) (x .d) h) h
+skips-inside cells end r controls x ρ cs h l = go refl (row cells end r x h)
   where
-    go : {k : ℕ} (a b c d : ℕ) → Row k → instructionOk cells end r (instruction k a b c d) ≡ true → r + (1 + worked controls (instruction k a b c d) ρ cs .skip) ≤ end
-    go a b c d number h = omega arith
-    go a b c d control h = omega arith
-    go a b c d operation h = omega arith
-    go a b c d delay h = omega arith
-    go a b c d read h = omega arith
-    go a b c d write h = omega arith
-    go a b c d skip h = either-way (demand (getD ρ a 0)) (says7 cells end r 7 a b c d h refl .1)
-      where
-        either-way : (t : Bool) → suc (r + b) ≤ end → r + (1 + pick t 0 b) ≤ end
-        either-way true m = omega arith
-        either-way false m = omega arith
+    either-way : (t : Bool) → suc (r + x .b) ≤ end → r + (1 + pick t 0 (x .b)) ≤ end
+    either-way true m = omega arith
+    either-way false m = omega arith
+
+    go : {k : ℕ} → x .code ≡ k → Row k → r + (1 + worked controls x ρ cs .skip) ≤ end
+    go e number = rw e (omega arith)
+    go e control = rw e (omega arith)
+    go e operation = rw e (omega arith)
+    go e delay = rw e (omega arith)
+    go e read = rw e (omega arith)
+    go e write = rw e (omega arith)
+    go e skip = rw e (either-way (demand (getD ρ (x .a) 0)) (says7 cells end r x h e .1))
 
 -- the key of an instruction, from its code and its a
 abbrev keyed : ℕ → ℕ → ℕ
@@ -177,36 +179,36 @@ key-left a skip o n = refl
 -- the same where it is worked, by its key: the places that it reads and writes are there
 module _ {key : ℕ} {x : Instruction} {controls ρ cs : List ℕ} (w : Workable key x controls ρ cs) where
   its-row : Row (x .code)
-  its-row = row _ _ _ _ _ _ _ _ (w .ok)
+  its-row = row _ _ _ _ (w .ok)
 
   pub code-is : {j : ℕ} → key ≡ j → 0 < j → j ≤ 7 → x .code ≡ j
-  code-is e m l = key-code (x .a) _ its-row (says-op _ _ _ _ _ _ _ _ (w .ok)) (sym (w .keyed) ∙ e) m l
+  code-is e m l = key-code (x .a) _ its-row (says-op _ _ _ _ (w .ok)) (sym (w .keyed) ∙ e) m l
 
   -- the operation 1 + j
   pub op-is : (j : ℕ) → key ≡ 8 + j → (x .code ≡ 3) × (x .a ≡ 1 + j)
   op-is j e = key-op (x .a) j its-row (sym (w .keyed) ∙ e)
 
   pub skip-left : {A : Type 0} → Rest A key → x .code ≡ 7
-  skip-left {A} n = key-left (x .a) its-row (says-op _ _ _ _ _ _ _ _ (w .ok)) (subst (Rest A) (w .keyed) n)
+  skip-left {A} n = key-left (x .a) its-row (says-op _ _ _ _ (w .ok)) (subst (Rest A) (w .keyed) n)
 
   pub op-there : {op : ℕ} → (x .code ≡ 3) × (x .a ≡ op) → (x .b < length ρ) × (x .c < length ρ)
-  op-there o = let s = says3 _ _ _ _ _ _ _ _ (w .ok) (o .0) in (omega (arith, s .0, w .room), omega (arith, s .1, w .room))
+  op-there o = let s = says3 _ _ _ _ (w .ok) (o .0) in (omega (arith, s .0, w .room), omega (arith, s .1, w .room))
 
   pub op-works : {op v s : ℕ} → (x .code ≡ 3) × (x .a ≡ op) → (v ≡ operate op (getD ρ (x .b) 0) (getD ρ (x .c) 0)) × (s ≡ 0) → worked controls x ρ cs ≡ effect v s cs
   unfolding worked
   op-works o e = rw (o .0, operate-pick, o .1, e .0, e .1)
 
   pub control-there : key ≡ 2 → x .a < length controls
-  control-there e = omega (arith, says2 _ _ _ _ _ _ _ _ (w .ok) (code-is e (omega arith) (omega arith)), w .sixteen)
+  control-there e = omega (arith, says2 _ _ _ _ (w .ok) (code-is e (omega arith) (omega arith)), w .sixteen)
 
   pub delay-there : key ≡ 4 → (x .a < length ρ) × ((x .b < length ρ) × ((x .d ≤ 4095) × (x .c + suc (x .d) ≤ length cs)))
-  delay-there e = let o = says4 _ _ _ _ _ _ _ _ (w .ok) (code-is e (omega arith) (omega arith)) in (omega (arith, o .0, w .room), (omega (arith, o .1 .0, w .room), o .1 .1))
+  delay-there e = let o = says4 _ _ _ _ (w .ok) (code-is e (omega arith) (omega arith)) in (omega (arith, o .0, w .room), (omega (arith, o .1 .0, w .room), o .1 .1))
 
   pub cell-there : key ≡ 5 → x .a < length cs
-  cell-there e = says5 _ _ _ _ _ _ _ _ (w .ok) (code-is e (omega arith) (omega arith))
+  cell-there e = says5 _ _ _ _ (w .ok) (code-is e (omega arith) (omega arith))
 
   pub write-there : key ≡ 6 → (x .a < length cs) × (x .b < length ρ)
-  write-there e = let o = says6 _ _ _ _ _ _ _ _ (w .ok) (code-is e (omega arith) (omega arith)) in (o .0, omega (arith, o .1, w .room))
+  write-there e = let o = says6 _ _ _ _ (w .ok) (code-is e (omega arith) (omega arith)) in (o .0, omega (arith, o .1, w .room))
 
   pub clock-there : x .code ≡ 7 → x .a < length ρ
-  clock-there e = omega (arith, says7 _ _ _ _ _ _ _ _ (w .ok) e .0, w .room)
+  clock-there e = omega (arith, says7 _ _ _ _ (w .ok) e .0, w .room)
