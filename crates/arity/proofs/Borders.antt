@@ -6,6 +6,7 @@ use mathlib.Core.List.{List, [], _∷_, _++_}
 use native.Mathlib.Omega.{arith}
 use native.Mathlib.Decide.{decLt}
 use lib.Dec.{lit<, lit≤}
+use lib.ListN.{length}
 use borrow.Author.Tests.{not-true, le-ltb}
 use Rattle.word.specs.Operation.{operands}
 use Rattle.word.specs.Tick.{zeros, Words}
@@ -16,7 +17,7 @@ use Rattle.arity.specs.Tree.{Tree, ins, outs, need, size}
 use Rattle.arity.specs.Table.{nodes, kindAt, firstAt, secondAt, tree, treeAt, circuit}
 use Rattle.arity.specs.Rules.{Arity}
 use Rattle.arity.specs.WellFormed.{Ruled, WellFormed}
-use Rattle.arity.specs.Nodes.{Complete, sumTo, cellsBefore}
+use Rattle.arity.specs.Nodes.{Complete, subtree, sumTo, cellsBefore}
 use Rattle.arity.specs.Check.{checked, nodeByNode, refusalAt, childrenFree, taken, ruleFits, loose}
 use Rattle.arity.specs.Checked.{Checked, IsAccepted}
 use Rattle.arity.specs.Formed.{Children, Fields, Formed, Counted, Fitting}
@@ -153,6 +154,12 @@ module _ (t : List ℕ) (n m : ℕ) (k : Checked t (Accepted n m 2048 16384)) (w
 
   largest-counts : (n ≡ ins (circuit t)) × (m ≡ outs (circuit t)) × (2048 ≡ need (circuit t)) × (16384 ≡ cellsBefore (circuit t) (nodes t))
   largest-counts = let p = promise k refl words in (p .counted .0, p .counted .1, p .counted .2, p .celled)
+
+  largest-size : (3 * nodes t ≡ length t) × (1 ≤ nodes t) × (nodes t ≤ 512)
+  largest-size = let p = promise k refl words in (p .whole, p .least, p .most)
+
+  largest-node : (i : ℕ) → i < nodes t → Arity (tree t i) (ins (tree t i)) (outs (tree t i)) × (subtree (circuit t) i ≡ tree t i) × (need (tree t i) ≤ need (circuit t))
+  largest-node i h = let p = promise k refl words .node i h in (p .arity, p .part, p .instructions)
 
   largest-answer : (p : ℕ) → checked p t ≡ counts (n ∷ m ∷ 2048 ∷ 16384 ∷ [])
   largest-answer = promise k refl words .answer

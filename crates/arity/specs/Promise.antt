@@ -1,7 +1,7 @@
 -- What crates above this one use of the check:
 -- `promise`, what holds of a table that it accepts; `rows`, what holds of the shape that its survey leaves; `recounted`, which takes a table that
--- `checked` counts for an accepted one. Beside these they cite `checked` and `LoosePlace`, of which the results of walker, translator and exported
--- check are made: the refusals of the table come first there.
+-- `checked` counts for an accepted one. Beside these they cite the definitions that the three are made of, `checked` and `LoosePlace` among them, as
+-- the refusals of the table come first in the results of walker, translator and exported check.
 use Prim.Native.Nat.{ℕ, _+_, _*_, _≤_, _<_}
 use mathlib.Core.Path.{_≡_}
 use mathlib.Core.List.{List, [], _∷_}
