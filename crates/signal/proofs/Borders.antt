@@ -59,17 +59,17 @@ module _ (n : ℕ) (h k : Clock) (x u : ℕ → Beam) (i j : ℕ) (b : Tree) whe
   whole-combined : signal (ondemand i (ondemand j b)) (clocked n h (λ s. k s ∷ x s) u) ≡ signal (ondemand i b) (clocked n (down n h k ⊗ h) x u)
   whole-combined = clocks-combine n h k x u i j b n (omega arith)
 
--- an ondemand delay of 1: no demand yet, and a clock of 2 at the latest tick
+-- an ondemand delay of 1: no demand yet, and none at the latest tick
 module _ (xs controls : Beam) where
   abbrev b₀ : Tree
   b₀ = leaf 0 (delay 1)
 
-  resting : (contents b₀ (own (ondemand 1 b₀) (tick (2 ∷ xs) controls ∷ []) 0) ≡ contents b₀ (own (ondemand 1 b₀) [] 0))
-      × (contents (ondemand 1 b₀) (tick (2 ∷ xs) controls ∷ []) ≡ contents (ondemand 1 b₀) [])
+  resting : (contents b₀ (own (ondemand 1 b₀) (tick (0 ∷ xs) controls ∷ []) 0) ≡ contents b₀ (own (ondemand 1 b₀) [] 0))
+      × (contents (ondemand 1 b₀) (tick (0 ∷ xs) controls ∷ []) ≡ contents (ondemand 1 b₀) [])
       × (contents (ondemand 1 b₀) [] ≡ zeros 1)
   unfolding own subtree Numbered Distinct demand outs
   resting =
-      let r = quiet (ondemand 1 b₀) b₀ (tt, λ e. absurd (let z : _≡_ {A = ℕ} 0 1 = e in omega arith)) 1 (inl refl) refl (tick (2 ∷ xs) controls) [] refl in
+      let r = quiet (ondemand 1 b₀) b₀ (tt, λ e. absurd (let z : _≡_ {A = ℕ} 0 1 = e in omega arith)) 1 (inl refl) refl (tick (0 ∷ xs) controls) [] refl in
       (r .body 0 refl, r .held, r .before refl)
 
 -- the last sample of the table
