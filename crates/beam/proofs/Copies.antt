@@ -5,13 +5,10 @@ use mathlib.Core.List.{List, _++_}
 use native.Mathlib.Omega.{arith}
 use native.Mathlib.Nat.{zero-mul, mul-zero, suc-mul}
 use native.Mathlib.Decide.{decLt}
-use lib.ListN.{length, getD, set, take, length-append, List·getD-append}
+use lib.ListN.{length, getD, set, take, List·getD-append}
 use lib.Seq.{getD-append-add, getD-set-same, getD-set-other, getD-take, ext-getD, length-take-le}
 use Rattle.signal.specs.Signal.{copies}
-
-pub copies-length : (k : ℕ) (xs : List ℕ) → length (copies k xs) ≡ k * length xs
-copies-length zero xs = sym (zero-mul (length xs))
-copies-length (suc k) xs = length-append xs (copies k xs) ∙ omega (arith, copies-length k xs, suc-mul k (length xs))
+use Rattle.signal.proofs.Beams.{length-copies}
 
 -- the first i places of r repeat the beam xs of b
 abbrev pub Repeats : ℕ → List ℕ → List ℕ → ℕ → Type 0
@@ -47,6 +44,6 @@ module _ (b : ℕ) (a : List ℕ) (room : b ≤ length a) where
 
   pub repeats-all : (r : List ℕ) (i n : ℕ) → n ≤ i → n ≤ length r → Repeats b (take b a) r i → (k : ℕ) → k * b ≡ n → take n r ≡ copies k (take b a)
   repeats-all r i n l h s k e =
-      let z : length (copies k (take b a)) ≡ n = copies-length k (take b a) ∙ ap (λ (m : ℕ). k * m) (length-take-le b a room) ∙ e in
+      let z : length (copies k (take b a)) ≡ n = length-copies k (take b a) ∙ ap (λ (m : ℕ). k * m) (length-take-le b a room) ∙ e in
       ext-getD 0 (take n r) (copies k (take b a)) (length-take-le n r h ∙ sym z)
       (λ j q. let q′ : j < n = rw (length-take-le n r h) at q in getD-take n r j 0 q′ ∙ s k j (omega arith) (omega arith))

@@ -1,9 +1,8 @@
 -- How many outputs a tick gives.
-use Prim.Native.Nat.{ℕ, _+_, zero, suc, _-_, _*_, _/_}
-use mathlib.Core.Path.{_≡_, refl, sym, ap, ap₂, _∙_}
+use Prim.Native.Nat.{ℕ, _+_, _-_, _/_}
+use mathlib.Core.Path.{_≡_, refl, ap₂, _∙_}
 use mathlib.Core.List.{List, _++_}
 use native.Mathlib.Omega.{arith}
-use native.Mathlib.Nat.{zero-mul}
 use lib.ListN.{length, drop, take, length-append, length-drop}
 use lib.Seq.{length-take-le}
 use Rattle.word.specs.Choice.{pick}
@@ -16,20 +15,9 @@ use Rattle.arity.specs.Tree.Primitive.{number, control, operation, delay, cable
 use Rattle.arity.specs.Tree.Composition.{sequence, parallel, split, merge, recursion}
 use Rattle.arity.specs.WellFormed.{WellFormed}
 use Rattle.arity.proofs.Times.{times-whole}
-use Rattle.signal.specs.Signal.{copies, fill, sums, sumsFrom, demanded}
+use Rattle.signal.specs.Signal.{fill, sums, demanded}
+use Rattle.signal.proofs.Beams.{length-fill, length-sums}
 use Rattle.calls.specs.Step.{step}
-
-pub length-copies : (k : ℕ) (xs : List ℕ) → length (copies k xs) ≡ k * length xs
-length-copies zero xs = sym (zero-mul (length xs))
-length-copies (suc k) xs = length-append xs (copies k xs) ∙ omega (arith, length-copies k xs)
-
-pub length-sums : (n k b i : ℕ) (xs : List ℕ) → length (sumsFrom n k b i xs) ≡ n
-length-sums zero k b i xs = refl
-length-sums (suc n) k b i xs = ap suc (length-sums n k b (suc i) xs)
-
--- a split fills its right side
-pub length-fill : (n b : ℕ) (xs : List ℕ) → n / b * b ≡ n → length xs ≡ b → length (fill n b xs) ≡ n
-length-fill n b xs w e = length-copies (n / b) xs ∙ rw e w
 
 pub step-outs : (base : ℕ → ℕ) (t : Tree) (f : Tick) (cs : List ℕ) → WellFormed t → length (f .inputs) ≡ ins t → length ((step base t f cs) .outputs) ≡ outs t
 unfolding step WellFormed

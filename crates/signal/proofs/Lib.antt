@@ -1,3 +1,4 @@
+pub mod Beams
 pub mod Causal
 pub mod Own
 pub mod Quiet

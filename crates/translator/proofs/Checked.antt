@@ -22,7 +22,7 @@ use Rattle.arity.proofs.Times.{times-whole, times-least}
 use Rattle.signal.specs.Signal.{fill}
 use Rattle.calls.proofs.Holds.{Placed}
 use Rattle.calls.proofs.Placing.{all-placed}
-use Rattle.calls.proofs.Widths.{length-fill}
+use Rattle.signal.proofs.Beams.{length-fill}
 use Rattle.flat.specs.Flat.{Instruction}
 use Rattle.flat.specs.Code.{encode, resultsAt}
 use Rattle.flat.specs.Check.{allBelow, instructionsOk, bodyOk}

@@ -18,7 +18,8 @@ use Rattle.arity.specs.WellFormed.{WellFormed}
 use Rattle.arity.proofs.Times.{times-whole, times-least}
 use Rattle.signal.specs.Signal.{fill, sums, sumFrom, sumsFrom}
 use Rattle.calls.specs.Step.{step}
-use Rattle.calls.proofs.Widths.{step-outs, length-fill, length-sums}
+use Rattle.signal.proofs.Beams.{length-fill, length-sums}
+use Rattle.calls.proofs.Widths.{step-outs}
 use Rattle.flat.proofs.Effects.{number-works, control-works, operation-works, addition-works, delay-works}
 use Rattle.translator.specs.Emit.{writes, upFrom, terms, merges, emit}
 use Rattle.translator.proofs.Registers.{Holds, Reads, kept-length, kept-reads, kept-one, both-append, both-take, both-drop, both-tail, both-copies, both-at, both-head, holds-last}
