@@ -74,7 +74,7 @@ longest-counted : (r : CheckAnswer) → Checked longest r → IsAccepted r → (
 longest-counted r k h = acceptance longest r k longest-formed .0 h 0 (lit< tt)
 
 -- is none of the first n nodes loose?
-abbrev pub tight : List ℕ → ℕ → Bool
+abbrev tight : List ℕ → ℕ → Bool
 tight t zero = true
 tight t (suc n) = not (loose t n) && tight t n
 
@@ -87,7 +87,7 @@ none-loose t (suc n) e q h = go (decLt q n) (λ l. none-loose t n (and-right (no
     go (no l) f = let z : q ≡ n = omega arith in rw z (not-true (loose t n) (and-left (not (loose t n)) (tight t n) e))
 
 -- an accepted table by computation
-pub computed : (t : List ℕ) (a b c d : ℕ) → tight t (nodes t) ≡ true → checked 0 t ≡ counts (a ∷ b ∷ c ∷ d ∷ []) → Checked t (Accepted a b c d)
+computed : (t : List ℕ) (a b c d : ℕ) → tight t (nodes t) ≡ true → checked 0 t ≡ counts (a ∷ b ∷ c ∷ d ∷ []) → Checked t (Accepted a b c d)
 computed t a b c d e f = record { place = 0; isLoose = λ q h. absurd (false≢true (sym (not-one q) ∙ h)); answer = sym f }
   where
     not-one : (q : ℕ) → loose t q ≡ false
@@ -141,6 +141,16 @@ integrator-accepted = computed integrator 1 1 3 1 refl refl
 
 pub integrator-words : Words integrator
 integrator-words = words-by integrator refl
+
+abbrev pub ondemandCable : List ℕ
+ondemandCable = 5 ∷ 0 ∷ 0 ∷ 12 ∷ 0 ∷ 0 ∷ []
+
+pub ondemand-accepted : Checked ondemandCable (Accepted 2 1 3 1)
+unfolding checked nodeByNode refusalAt childrenFree taken ruleFits tree treeAt ins outs need size sumTo
+ondemand-accepted = computed ondemandCable 2 1 3 1 refl refl
+
+pub ondemand-words : Words ondemandCable
+ondemand-words = words-by ondemandCable refl
 
 -- the promise with 2,048 instructions and 16,384 cells
 module _ (t : List ℕ) (n m : ℕ) (k : Checked t (Accepted n m 2048 16384)) (words : Words t) where

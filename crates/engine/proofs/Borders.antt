@@ -1,21 +1,17 @@
 -- Demand 3 at its borders: a premise that asked for more would fail here, and so would a conclusion that said less.
 use Prim.Native.Nat.{ℕ, _≤_}
-use mathlib.Core.Path.{_≡_, refl}
-use mathlib.Core.List.{List, [], _∷_}
+use mathlib.Core.Path.{_≡_}
+use mathlib.Core.List.{List, []}
 use native.Mathlib.Omega.{arith}
 use lib.IntN.{ℤ}
 use Rattle.word.specs.Tick.{Words}
-use Rattle.word.proofs.Each.{words-by}
 use Rattle.refusal.specs.Answer.{count}
 use Rattle.refusal.specs.Answer.Answer.{refused}
 use Rattle.cells.specs.Load.{loaded}
 use Rattle.arity.specs.declared.CheckAnswer.the-variants.{Accepted}
-use Rattle.arity.specs.Tree.{ins, outs, need, size}
-use Rattle.arity.specs.Table.{nodes, circuit, tree, treeAt}
-use Rattle.arity.specs.Nodes.{sumTo}
-use Rattle.arity.specs.Check.{checked, nodeByNode, refusalAt, childrenFree, taken, ruleFits}
+use Rattle.arity.specs.Table.{nodes, circuit}
 use Rattle.arity.specs.Checked.{Checked}
-use Rattle.arity.proofs.Borders.{computed, fourDelays, four-delays-accepted, four-delays-words, integrator, integrator-accepted, integrator-words}
+use Rattle.arity.proofs.Borders.{fourDelays, four-delays-accepted, four-delays-words, integrator, integrator-accepted, integrator-words, ondemandCable, ondemand-accepted, ondemand-words}
 use Rattle.signal.specs.Signal.{History}
 use Rattle.calls.specs.Calls.{Arguments, Element, OthersRefused}
 use Rattle.calls.specs.Law.{HoldsPast, LawfulThroughout}
@@ -57,13 +53,5 @@ pub integrator-lawful : LawfulRuns integrator 1
 integrator-lawful cells e = demand-3 integrator 1 (runnable integrator 1 1 3 1 integrator-accepted integrator-words (omega arith) (omega arith)) 1 cells e (omega arith)
 
 -- an ondemand cable, and a load that named its one cell
-abbrev pub onDemand : List ℕ
-onDemand = 5 ∷ 0 ∷ 0 ∷ 12 ∷ 0 ∷ 0 ∷ []
-
-on-demand-accepted : Checked onDemand (Accepted 2 1 3 1)
-unfolding checked nodeByNode refusalAt childrenFree taken ruleFits tree treeAt ins outs need size sumTo
-on-demand-accepted = computed onDemand 2 1 3 1 refl refl
-
-pub on-demand-lawful : LawfulRuns onDemand 1
-on-demand-lawful cells e =
-    demand-3 onDemand 1 (runnable onDemand 2 1 3 1 on-demand-accepted (words-by onDemand refl) (omega arith) (omega arith)) 1 cells e (omega arith)
+pub ondemand-lawful : LawfulRuns ondemandCable 1
+ondemand-lawful cells e = demand-3 ondemandCable 1 (runnable ondemandCable 2 1 3 1 ondemand-accepted ondemand-words (omega arith) (omega arith)) 1 cells e (omega arith)

@@ -12,6 +12,7 @@ use Rattle.arity.specs.Tree.Tree.{leaf}
 use Rattle.arity.specs.Tree.Primitive.{cable}
 use Rattle.arity.specs.Table.{nodes, circuit, tree, treeAt}
 use Rattle.arity.specs.Nodes.{Numbered, subtree, cellsBefore}
+use Rattle.arity.proofs.Borders.{ondemandCable}
 use Rattle.signal.specs.Signal.{History, signal}
 use Rattle.signal.specs.History.{own as ownHistory}
 use Rattle.calls.specs.Calls.{Arguments, Program, Element, history, OthersRefused, answerTo}
@@ -19,10 +20,10 @@ use Rattle.calls.specs.Calls.Element.{own}
 use Rattle.calls.specs.Law.{TickByTick, Quiet, AcceptedAfter, cutAfter, nodeCells, latestOutputs}
 use Rattle.translator.specs.Translated.{translated}
 use Rattle.engine.specs.Runs.{runOf}
-use Rattle.engine.proofs.Borders.{onDemand, on-demand-lawful}
+use Rattle.engine.proofs.Borders.{ondemand-lawful}
 
 abbrev program : Program
-program = runOf (translated onDemand)
+program = runOf (translated ondemandCable)
 
 abbrev run : Arguments
 run = record { ticks = 3; inputs = 0 ∷ 5 ∷ 1 ∷ 7 ∷ 0 ∷ 9 ∷ []; controls = zeros 16; outputs = zeros 3; lent = 1 }
@@ -31,19 +32,19 @@ abbrev block : List ℕ
 block = loaded 1 (3 ∷ []) .buffer
 
 abbrev cut : ℕ → List Element
-cut j = cutAfter (nodes onDemand) (circuit onDemand) program 0 [] run j
+cut j = cutAfter (nodes ondemandCable) (circuit ondemandCable) program 0 [] run j
 
 others-refused : OthersRefused program 0 block (own run ∷ [])
 unfolding OthersRefused
 others-refused = (tt, tt)
 
-accepted : AcceptedAfter (nodes onDemand) (circuit onDemand) program 0 (own run ∷ []) [] run
+accepted : AcceptedAfter (nodes ondemandCable) (circuit ondemandCable) program 0 (own run ∷ []) [] run
 unfolding answerTo cellsBefore ins outs tree
 accepted = record { after = []; stands = refl; accepted = refl }
 
-tick-by-tick : TickByTick (nodes onDemand) (circuit onDemand) program 0 [] block [] run
+tick-by-tick : TickByTick (nodes ondemandCable) (circuit ondemandCable) program 0 [] block [] run
 unfolding loaded
-tick-by-tick = on-demand-lawful (3 ∷ []) refl (own run ∷ []) others-refused .tickByTick [] run accepted
+tick-by-tick = ondemand-lawful (3 ∷ []) refl (own run ∷ []) others-refused .tickByTick [] run accepted
 
 ticked : ℕ → ℕ → Tick
 ticked clock x = tick (clock ∷ x ∷ []) (zeros 16)
@@ -62,14 +63,14 @@ unfolding ins tree ticked
 after-2 = tick-by-tick .next 1 (omega arith) ∙ ap (λ (h : History). ticked 1 7 ∷ h) after-1
 
 abbrev QuietAt : ℕ → ℕ → Type 0
-QuietAt j k = Quiet (nodes onDemand) (circuit onDemand) program 0 [] block (cut j) (cut k) 1 (leaf 0 cable)
+QuietAt j k = Quiet (nodes ondemandCable) (circuit ondemandCable) program 0 [] block (cut j) (cut k) 1 (leaf 0 cable)
 
 -- no demand has reached the body yet
 before-demand : QuietAt 0 1
 unfolding Numbered subtree tree treeAt ins ticked ownHistory demand
 before-demand = tick-by-tick .quiet 0 (omega arith) 1 (leaf 0 cable) (inl refl) refl (rw after-0)
 
-zero-held : latestOutputs (circuit onDemand) 1 (leaf 0 cable) (history program 0 2 [] block (cut 1)) ≡ 0 ∷ []
+zero-held : latestOutputs (circuit ondemandCable) 1 (leaf 0 cable) (history program 0 2 [] block (cut 1)) ≡ 0 ∷ []
 unfolding outs tree treeAt ownHistory ins
 zero-held = before-demand .zero (rw after-0)
 
@@ -78,10 +79,10 @@ after-demand : QuietAt 2 3
 unfolding Numbered subtree tree treeAt ins ticked ownHistory demand
 after-demand = tick-by-tick .quiet 2 (omega arith) 1 (leaf 0 cable) (inl refl) refl (rw after-2)
 
-seven-held : nodeCells (nodes onDemand) (circuit onDemand) program 0 block (cut 3) 1 ≡ 7 ∷ []
+seven-held : nodeCells (nodes ondemandCable) (circuit ondemandCable) program 0 block (cut 3) 1 ≡ 7 ∷ []
 unfolding tree treeAt ins ticked ownHistory signal outs demand
 seven-held = after-demand .cells 1 (inl refl) ∙ after-demand .held ∙ rw after-2
 
-seven-given : latestOutputs (circuit onDemand) 1 (leaf 0 cable) (history program 0 2 [] block (cut 3)) ≡ 7 ∷ []
+seven-given : latestOutputs (circuit ondemandCable) 1 (leaf 0 cable) (history program 0 2 [] block (cut 3)) ≡ 7 ∷ []
 unfolding tree treeAt ins ticked ownHistory signal outs demand
 seven-given = after-demand .repeated ∙ rw after-2
