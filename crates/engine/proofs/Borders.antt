@@ -1,9 +1,10 @@
 -- Demand 3 at its borders: a premise that asked for more would fail here, and so would a conclusion that said less.
 use Prim.Native.Nat.{ℕ, _≤_}
-use mathlib.Core.Path.{_≡_}
+use mathlib.Core.Path.{_≡_, refl}
 use mathlib.Core.List.{List, []}
 use native.Mathlib.Omega.{arith}
 use lib.IntN.{ℤ}
+use lib.ListN.{take}
 use Rattle.word.specs.Tick.{Words}
 use Rattle.refusal.specs.Answer.{count}
 use Rattle.refusal.specs.Answer.Answer.{refused}
@@ -12,13 +13,16 @@ use Rattle.arity.specs.declared.CheckAnswer.the-variants.{Accepted}
 use Rattle.arity.specs.Table.{nodes, circuit}
 use Rattle.arity.specs.Checked.{Checked}
 use Rattle.arity.proofs.Borders.{fourDelays, four-delays-accepted, four-delays-words, integrator, integrator-accepted, integrator-words, ondemandCable, ondemand-accepted, ondemand-words}
+use Rattle.arity.proofs.Promise.{promise}
 use Rattle.signal.specs.Signal.{History}
 use Rattle.calls.specs.Calls.{Arguments, Element, OthersRefused}
 use Rattle.calls.specs.Law.{HoldsPast, LawfulThroughout}
+use Rattle.translator.specs.declared.TranslateAnswer.the-variants.{Numbers}
 use Rattle.translator.specs.Translated.{translated}
+use Rattle.translator.specs.Translate.{Translates}
 use Rattle.engine.specs.Runs.{runOf}
 use Rattle.engine.specs.Demand3.{Runnable}
-use Rattle.engine.proofs.Demand3.{demand-3, runs-go-on, no-13}
+use Rattle.engine.proofs.Demand3.{demand-3, runs-go-on, no-13, delivered-runs}
 
 -- what the runs of a table's code have after a load that named `named` cells
 abbrev pub LawfulRuns : List ℕ → ℕ → Type 0
@@ -51,6 +55,13 @@ four-delays-lawful cells e = demand-3 fourDelays 16384 (runnable fourDelays 8 4 
 -- the integrator, and a load that named its one cell
 pub integrator-lawful : LawfulRuns integrator 1
 integrator-lawful cells e = demand-3 integrator 1 (runnable integrator 1 1 3 1 integrator-accepted integrator-words (omega arith) (omega arith)) 1 cells e (omega arith)
+
+-- the same of the 20 numbers that `translate` has written
+integrator-delivered : (code code′ : List ℕ) → Translates integrator code (Numbers 20) code′ → (cells : List ℕ) → loaded 1 cells .answer ≡ count 1
+    → (list : List Element) → OthersRefused (runOf (take 20 code′)) 0 (loaded 1 cells .buffer) list
+    → LawfulThroughout (nodes integrator) (circuit integrator) (runOf (take 20 code′)) 0 [] (loaded 1 cells .buffer) list
+integrator-delivered code code′ t cells e =
+    delivered-runs integrator code code′ (Numbers 20) t 20 refl integrator-words 1 cells e (omega (arith, promise integrator-accepted refl integrator-words .celled))
 
 -- an ondemand cable, and a load that named its one cell
 pub ondemand-lawful : LawfulRuns ondemandCable 1

@@ -59,8 +59,6 @@ no-13 table d r a cells q g =
 
 pub delivered-runs : (table : List ℕ) → DeliveredRuns table
 delivered-runs table code code′ a t c e words =
-    let k = was-accepted t c e in
     let d = is-delivered t c e in
-    let q = promise k refl words in
-    let r : Runnable table _ = record { inputs = _; outputs = _; instructions = _; accepted = k; words = words; short = d .short; few = omega (arith, d .few, q .celled) } in
-    rw (delivered t c e words, ← q .celled) (demand-3 table _ r)
+    let r : Runnable table _ = record { inputs = _; outputs = _; instructions = _; accepted = was-accepted t c e; words = words; short = d .short; few = d .few } in
+    rw (delivered t c e words) (demand-3 table _ r)
