@@ -1,4 +1,4 @@
--- A whole run of the walker, from cells that are all 0, gives the meaning, and leaves the cells that the meaning says.
+-- The ticks of a whole history, from cells that are all 0, give the meaning, and leave the cells that the meaning says.
 use Prim.Native.Nat.{ℕ, zero, suc}
 use mathlib.Core.Path.{_≡_, refl, sym, ap, _∙_}
 use mathlib.Core.List.{List, [], _∷_, _++_}
@@ -103,7 +103,7 @@ run-right base t n w q (f ∷ h) =
       long = s .long ∙ p .long;
     }
 
--- the walker on a table's circuit: the cells of the nodes stand in node order
+-- a table's circuit: the cells of the nodes stand in node order
 pub record WalkRight (n : ℕ) (t : Tree) (h : History) : Type 0 where
   pub outputs : given (cellsBefore t) t (zeros (cellsBefore t n)) h ≡ signal t h
   pub cells : after (cellsBefore t) t (zeros (cellsBefore t n)) h ≡ cellsAfter n t h

@@ -1,4 +1,4 @@
--- The walker is right: a tick of it gives what the meaning says, and leaves the cells as they are to be.
+-- A tick is right: it gives what the meaning says, and leaves the cells as they are to be.
 use Prim.Native.Nat.{ℕ, _≤_}
 use mathlib.Core.Path.{_≡_, refl, sym, ap, _∙_, subst}
 use mathlib.Core.Bool.{Bool, true, false}

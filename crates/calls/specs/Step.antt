@@ -1,4 +1,4 @@
--- One tick of the walker, over cells that hold anything.
+-- One tick of a circuit, over cells that hold anything: what the walker does, and what the translated code is held to.
 use Prim.Native.Nat.{ℕ}
 use mathlib.Core.List.{List, [], _∷_}
 use lib.ListN.{getD}
