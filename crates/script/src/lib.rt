@@ -104,6 +104,10 @@ fn play_table(
         lines::print_line(file, s.file);
         return s;
     }
+    if is(line, b"play") {
+        lines::samples_line(file, s.file);
+        return s;
+    }
     s
 }
 

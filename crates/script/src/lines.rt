@@ -28,6 +28,13 @@ pub fn print_line(file: &[u8], size: usize) {
     calls::print_file(&file[0..size]);
 }
 
+pub fn samples_line(file: &[u8], size: usize) {
+    if file.len() < size {
+        return;
+    }
+    console::play_held(&file[0..size]);
+}
+
 // The first numbers of a list into another.
 fn copy(from: &[u32], to: &mut [u32], count: usize) {
     let mut i: usize = 0;

@@ -1,0 +1,4 @@
+// Plays the examples of docs/FORMAT.md on the entries.
+fn main() {
+    script::play();
+}
