@@ -41,7 +41,7 @@ fn parse_line(line: &[u8], place: usize) -> Result<[u32; 3], u32> {
 
 /// "A minus stands directly before the digits; there are no leading zeros, no plus, no minus
 /// zero": a text has the form when it is the one text of its number.
-fn parse_number(column: &[u8]) -> Option<u32> {
+pub fn parse_number(column: &[u8]) -> Option<u32> {
     let text = std::str::from_utf8(column).ok()?;
     let number: i32 = text.trim_start_matches(' ').parse().ok()?;
     let same = format!("{number:>width$}", width = column.len()) == text;

@@ -16,6 +16,8 @@ pub mod graph;
 pub mod limit_cases;
 pub mod meaning;
 pub mod parse;
+pub mod play_cases;
+pub mod programs;
 pub mod random;
 pub mod samples;
 pub mod scene;
