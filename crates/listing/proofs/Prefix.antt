@@ -1,16 +1,12 @@
 -- The print of a file's beginning.
-use Prim.Native.Nat.{ℕ}
-use mathlib.Core.Path.{_≡_, refl, sym, ap, _∙_}
-use mathlib.Core.List.{List}
+use mathlib.Core.Path.{_≡_, refl, ap, _∙_}
 use mathlib.Core.Option.{Option, none, some}
 use native.Mathlib.Omega.{arith}
 use lib.ListN.{take}
 use Rattle.refusal.specs.Answer.{Answer}
-use Rattle.column.specs.Line.{lines}
-use Rattle.column.specs.File.{fileRefusal, tableOf}
+use Rattle.column.specs.File.{fileRefusal}
 use Rattle.column.proofs.Prefix.{refused-alike, right-prefix}
-use Rattle.arity.specs.Checked.{LoosePlace}
-use Rattle.listing.specs.Print.{fileText, Begins}
+use Rattle.listing.specs.Print.{fileText}
 use Rattle.listing.specs.Laws.{PrefixPrints, PrefixPrinted}
 
 pub prefix-prints : PrefixPrints
