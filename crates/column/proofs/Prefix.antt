@@ -15,7 +15,7 @@ use Rattle.word.specs.Choice.{pick}
 use Rattle.word.specs.Tick.{Words, zeros}
 use Rattle.word.proofs.Each.{words-zeros}
 use Rattle.column.specs.Checks.{_or_}
-use Rattle.column.specs.Line.{lineFeed, enoughBytes, lines, whole, lineRefusal}
+use Rattle.column.specs.Line.{lineFeed, lines, whole, lineRefusal}
 use Rattle.column.specs.File.{linesRefusal, fileRefusal, reading, linesFrom}
 use Rattle.column.specs.Laws.{PrefixDecides, PrefixReads}
 use Rattle.column.specs.Promises.{firstLine}
@@ -110,10 +110,10 @@ too-few n k e h f =
     omega (arith, right-length (file ++ (0 ∷ [])) more, length-append file (0 ∷ []))
 
 pub prefix-decides : PrefixDecides
-prefix-decides k = (λ f. go f (decLe 20993 k), λ h file. refused-alike k file (omega arith))
+prefix-decides k = (λ f. omega (arith, go f (decLe 20993 k)), λ h file. refused-alike k file (omega arith))
   where
-    go : ((file : List ℕ) → fileRefusal (take k file) ≡ fileRefusal file) → Dec (20993 ≤ k) → enoughBytes ≤ k
-    go f (yes h) = omega arith
+    go : ((file : List ℕ) → fileRefusal (take k file) ≡ fileRefusal file) → Dec (20993 ≤ k) → 20993 ≤ k
+    go f (yes h) = h
     go f (no h) = absurd (too-few 512 k refl (omega arith) f)
 
 pub prefix-reads : PrefixReads
