@@ -10,9 +10,10 @@ use Rattle.refusal.specs.Answer.{count}
 use Rattle.refusal.specs.Outcome.{Outcome, outcome}
 use Rattle.word.specs.Tick.{Words}
 use Rattle.column.specs.Number.{digits, decimal, numeral, column, numberIn}
-use Rattle.column.specs.File.{reading, writing}
+use Rattle.column.specs.File.{fileRefusal, reading, writing}
 use Rattle.column.proofs.Texts.{number-law}
 use Rattle.column.proofs.RoundTrip.{write-nodes, file-again, table-again}
+use Rattle.column.proofs.Prefix.{prefix-decides, prefix-reads}
 
 -- "-2147483648" and "2147483647", in columns with just room for them
 least-read : numberIn (45 ∷ 50 ∷ 49 ∷ 52 ∷ 55 ∷ 52 ∷ 56 ∷ 51 ∷ 54 ∷ 52 ∷ 56 ∷ []) ≡ some (negsuc 2147483647)
@@ -36,3 +37,13 @@ largest-table : (table file buffer : List ℕ) → Words table → length table 
 largest-table table file buffer w t f b =
     let e : writing table file .answer ≡ count 20992 = ap (λ (o : Outcome). o .answer) (write-nodes table file _ 512 20992 t (omega arith) (omega arith) refl refl (omega arith)) in
     table-again table file buffer 20992 w e (omega arith) ∙ ap (λ (k : ℕ). outcome (count (k / 3)) (table ++ drop k buffer)) t
+
+-- 512 lines and a byte more
+enough-decides : (file : List ℕ) → fileRefusal (take 20993 file) ≡ fileRefusal file
+enough-decides = prefix-decides 20993 .1 (omega arith)
+
+less-does-not : ((file : List ℕ) → fileRefusal (take 20992 file) ≡ fileRefusal file) → ⊥
+less-does-not f = omega (arith, prefix-decides 20992 .0 f)
+
+enough-reads : (file table : List ℕ) → reading (take 20993 file) table ≡ reading file table
+enough-reads file table = prefix-reads 20993 file table (omega arith)

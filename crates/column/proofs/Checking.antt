@@ -34,7 +34,7 @@ check-empty [] e = record { refusal = refl; nodes = λ n q. let x : _≡_ {A = �
 check-empty (b ∷ bs) e = absurd (omega arith)
 
 module _ (file : List ℕ) (at line : ℕ) (filled : length file ≡ 0 → ⊥) (p : Checking file at line) where
-  file-judged : fileRefusal file ≡ linesRefusal line (lines (drop at file))
+  pub file-judged : fileRefusal file ≡ linesRefusal line (lines (drop at file))
   unfolding fileRefusal
   file-judged =
       let n : length (lines file) ≡ suc (length (lines (drop (length (firstLine file)) file))) = ap length (lines-first file (omega arith)) in

@@ -42,7 +42,7 @@ columnsLeft i l j zero = none
 columnsLeft i l j (suc n) = columnRefusal i l j or columnsLeft i l (suc j) n
 
 -- the columns lie within the 41 bytes
-drop-take : (s n : ℕ) (l : List ℕ) → drop s (take (s + n) l) ≡ take n (drop s l)
+pub drop-take : (s n : ℕ) (l : List ℕ) → drop s (take (s + n) l) ≡ take n (drop s l)
 drop-take zero n l = rw zero-add
 drop-take (suc s) n [] = rw (suc-add s n) (sym (take-nil n))
 drop-take (suc s) n (x ∷ l) = rw (suc-add s n) (drop-take s n l)

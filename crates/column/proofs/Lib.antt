@@ -14,5 +14,6 @@ pub mod LineText
 pub mod FileText
 pub mod Refusing
 pub mod RoundTrip
+pub mod Prefix
 pub mod Samples
 mod Borders

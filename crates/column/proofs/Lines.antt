@@ -3,10 +3,11 @@ use Prim.Native.Nat.{ℕ, zero, suc, _+_, _-_, _*_, _≤_, _<_}
 use mathlib.Core.Path.{_≡_, refl, ap, _∙_}
 use mathlib.Core.Bool.{Bool, true, false}
 use mathlib.Core.List.{List, [], _∷_}
+use native.Mathlib.Decide.{ℕ-discrete}
 use native.Mathlib.Omega.{arith}
 use borrow.Author.Tests.{eq-eqb, ne-eqb}
 use lib.Dec.{eqb}
-use lib.ListN.{length, getD, take, drop, drop-of-length-le, length-take, length-drop}
+use lib.ListN.{length, getD, take, drop, length-take, length-drop}
 use lib.Seq.{getD-take, getD-drop, drop-drop}
 use Rattle.word.specs.Choice.{pick}
 use Rattle.column.specs.Line.{lineFeed, lines, before, whole, columnOf}
@@ -19,9 +20,6 @@ first-more file at h n = rw (drop-at file at h, ne-eqb (getD file at 0) lineFeed
 
 pub first-feed : (file : List ℕ) (at : ℕ) → at < length file → getD file at 0 ≡ lineFeed → length (firstLine (drop at file)) ≡ 1
 first-feed file at h e = rw (drop-at file at h, eq-eqb (getD file at 0) lineFeed e)
-
-pub first-none : (file : List ℕ) (at : ℕ) → length file ≤ at → length (firstLine (drop at file)) ≡ 0
-first-none file at h = rw (drop-of-length-le file h)
 
 pub first-take : (file : List ℕ) → firstLine file ≡ take (length (firstLine file)) file
 first-take [] = refl
@@ -55,11 +53,22 @@ first-within file at =
 pub not-whole : (l : List ℕ) → (length l ≡ 41 → ⊥) → false ≡ whole l
 not-whole l n = rw (ne-eqb (length l) 41 n)
 
-pub whole-by-last : (file : List ℕ) (at : ℕ) → length (firstLine (drop at file)) ≡ 41 → eqb (getD file (at + 40) 0) lineFeed ≡ whole (firstLine (drop at file))
+whole-by-last : (file : List ℕ) (at : ℕ) → length (firstLine (drop at file)) ≡ 41 → eqb (getD file (at + 40) 0) lineFeed ≡ whole (firstLine (drop at file))
 whole-by-last file at e =
     let g : getD (firstLine (drop at file)) 40 0 ≡ getD file (at + 40) 0 =
     ap (λ (l : List ℕ). getD l 40 0) (first-take (drop at file)) ∙ getD-take (length (firstLine (drop at file))) (drop at file) 40 0 (omega arith) ∙ getD-drop at file 40 0 in
     rw (eq-eqb (length (firstLine (drop at file))) 41 e, g)
+
+-- no line feed stands before the last of 41 bytes: then that byte decides
+pub whole-by-feed : (file : List ℕ) (at end : ℕ) → end ≡ at + 40 → end < length file → length (firstLine (drop at file)) ≡ (end - at) + length (firstLine (drop end file))
+    → eqb (getD file (at + 40) 0) lineFeed ≡ whole (firstLine (drop at file))
+whole-by-feed file at end q h e = go (ℕ-discrete (length (firstLine (drop at file))) 41)
+  where
+    go : Dec (length (firstLine (drop at file)) ≡ 41) → eqb (getD file (at + 40) 0) lineFeed ≡ whole (firstLine (drop at file))
+    go (yes l) = whole-by-last file at l
+    go (no n) =
+        let other : getD file end 0 ≡ lineFeed → ⊥ = λ f. n (omega (arith, first-feed file end h f)) in
+        rw (← q) (ne-eqb (getD file end 0) lineFeed other ∙ not-whole (firstLine (drop at file)) n)
 
 -- where a column lies in the file
 pub column-first : (file : List ℕ) (at j : ℕ) → j ≡ 0 → take (at + 4 - at) (drop at file) ≡ columnOf j (drop at file)

@@ -21,6 +21,10 @@ lineBytes = 41
 abbrev pub mostNodes : ℕ
 mostNodes = 512
 
+-- "20,993 bytes are enough": 512 lines and a byte of a 513th
+abbrev pub enoughBytes : ℕ
+enoughBytes = lineBytes * mostNodes + 1
+
 -- numbers in columns of 12
 abbrev pub columns : List ℤ → List ℕ
 columns [] = []

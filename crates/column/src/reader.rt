@@ -18,30 +18,23 @@ use crate::ReadAnswer;
 use crate::columns::number;
 use refusal::Refusal;
 
-// The length of the line that begins at `at`, with its line feed if it has one.
-fn line_length(file: &[u8], at: usize) -> usize
-    requires { ⌜ at ≤ length (now file) ⌝ }
-    ensures { λ r. ⌜ r ≡ length (firstLine (drop at (now (file .entry)))) ⌝ }
-{
-    let mut end: usize = at;
-    while end < file.len() {
-        if file[end] == b'\n' {
-            return end + 1 - at;
-        }
-        end += 1;
-    }
-    end - at
-}
-
-// Whether the line that begins at `at` has 41 bytes, the last its line feed.
+// Whether the line that begins at `at` has 41 bytes, the last its line feed. However long the line is, only these are looked at.
 fn is_whole(file: &[u8], at: usize) -> bool
     requires { ⌜ at ≤ length (now file) ⌝ }
     ensures { λ r. ⌜ r ≡ whole (firstLine (drop at (now (file .entry)))) ⌝ }
 {
-    if line_length(file, at) != LINE_BYTES {
+    if file.len() - at < LINE_BYTES {
         return false;
     }
-    file[at + 40] == b'\n'
+    let last = at + 40;
+    let mut end: usize = at;
+    while end < last {
+        if file[end] == b'\n' {
+            return false;
+        }
+        end += 1;
+    }
+    file[last] == b'\n'
 }
 
 // Column j of the line that begins at `at`.

@@ -3,3 +3,5 @@ pub mod Codes
 pub mod Refused
 pub mod Tables
 pub mod Files
+pub mod Prefix
+mod Borders

@@ -1,10 +1,10 @@
--- `translate::main` is safe and ends.
+-- `console::translating::translate` is safe and ends.
 use mathlib.Core.Path.{sym}
 use borrow.Author.Needs.{needs}
 use lib.Seq.{length-take-le}
 use Rattle.listing.proofs.Files.{printed-within}
-use Rattle.translate.proofs.main.Statement.{statement}
-use Rattle.translate.proofs.main.Tie as tie
+use Rattle.console.proofs.translating.translate.Statement.{statement}
+use Rattle.console.proofs.translating.translate.Tie as tie
 
 slice-aggregate-read-full : tie.Need-slice-aggregate-read-full
 slice-aggregate-read-full c = search needs
@@ -33,8 +33,8 @@ write-all-requires c κs = search needs
 returns : tie.Need-returns
 returns c = search needs
 
-pub main-spec : {M : Type 1} → statement M
-main-spec =
+pub translate-spec : {M : Type 1} → statement M
+translate-spec =
     tie.close
     (tie.spec
     slice-aggregate-read-full
