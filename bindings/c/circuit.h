@@ -17,12 +17,13 @@
  * the line or node for refusals 1 to 9, else -1. A refused call writes to no buffer.
  *
  * Calls from an audio thread. The functions keep no state of their own, allocate nothing, take no lock and make no
- * system call; of the C library they use memcpy and memset at most. Calls on different buffers may run at the same time.
- * circuit_run does not recurse: it checks the code once a call, then works each instruction once a tick, so that its
- * time grows with the instructions and with ticks x (instructions + inputs + outputs), and with nothing else. Samples
- * decide which bodies of an ondemand are skipped, which is less work, and the few machine instructions by which the
- * cases of a delay or an operation differ. Touch the buffers once before the first call that must be in time: memory
- * that was never touched is the operating system's to provide.
+ * system call; of the C library they call memcpy, memset and the like, which compilers call unasked. Calls on different
+ * buffers may run at the same time. circuit_run does not recurse: it checks the code once a call, then works each
+ * instruction at most once a tick, so that its time grows with the instructions, and with the ticks times the sum of
+ * instructions, inputs and outputs, and with nothing else. Samples decide which bodies of an ondemand are skipped, which
+ * is less work, and which case of a delay, a quotient or a remainder is taken, a few machine instructions. Before the
+ * first call that must be in time make one on the same buffers: memory is provided when it is first touched, and the
+ * dynamic linker looks memset up at the first call.
  */
 #ifndef CIRCUIT_H
 #define CIRCUIT_H

@@ -47,8 +47,8 @@ pub const TICKS: usize = 4096;
 /// Controls of a call, exactly so many.
 pub const CONTROLS: usize = 16;
 
-/// Bytes of stack that a thread needs which does nothing but call [`translate`], on x86-64. `bindings/c/circuit.h` says
-/// what these numbers are made of; a caller's own frames come on top.
+/// Bytes of stack for a thread that does nothing but call [`translate`], on x86-64. `bindings/c/circuit.h` says what
+/// these numbers are made of; a caller's own frames come on top.
 pub const STACK_TRANSLATE: usize = 776 * 1024;
 /// The same for [`walk`].
 pub const STACK_WALK: usize = 628 * 1024;
