@@ -16,7 +16,14 @@
  * lower 32 bits are the count that the call calls for, or the refusal's place as a 32-bit two's complement number:
  * the line or node for refusals 1 to 9, else -1. A refused call writes to no buffer.
  *
- * The functions keep no state of their own and allocate nothing; calls on different buffers may run at the same time.
+ * Calls from an audio thread. The functions keep no state of their own, allocate nothing, take no lock and make no
+ * system call; of the C library they call memcpy, memset and the like, which compilers call unasked. Calls on different
+ * buffers may run at the same time. circuit_run does not recurse: it checks the code once a call, then works each
+ * instruction at most once a tick, so that its time grows with the instructions, and with the ticks times the sum of
+ * instructions, inputs and outputs, and with nothing else. Samples decide which bodies of an ondemand are skipped, which
+ * is less work, and which case of a delay, a quotient or a remainder is taken, a few machine instructions. Before the
+ * first call that must be in time make one on the same buffers: memory is provided when it is first touched, and the
+ * dynamic linker looks memset up at the first call.
  */
 #ifndef CIRCUIT_H
 #define CIRCUIT_H
@@ -40,6 +47,23 @@ extern "C" {
 #define CIRCUIT_CONTROLS 16 /* exactly so many */
 #define CIRCUIT_COUNTS 4    /* that the check reports */
 
+/* Bytes of stack for a thread that does nothing but such a call, on x86-64: what the call itself uses at most, which
+ * stands behind the number, and 12 KiB, rounded up to pages of 4 KiB. Of the 12 KiB the start of a thread takes 4.4 with
+ * the GNU C library, and its dynamic linker, which looks memset up at the first call, 3.1; the rest is spare. A caller's
+ * own frames and signal handlers come on top.
+ *
+ * Translator and walker have a frame of 1.5 and 1.2 KiB for each node on the way from the circuit down, whatever the
+ * node is. A way has at most 497 of the 512 nodes: an ondemand adds an input, of which there are at most 32, so that 15
+ * nodes on it must have a second child. The stack of the others does not depend on what they are given.
+ * bindings/c/stack_test.c measures all of them, on the deepest circuit, and calls each with just this stack. */
+#define CIRCUIT_STACK_TRANSLATE (776 * 1024) /* 762 KiB */
+#define CIRCUIT_STACK_WALK (628 * 1024)      /* 615 KiB */
+#define CIRCUIT_STACK_RUN (32 * 1024)        /* 17 KiB */
+#define CIRCUIT_STACK_CHECK (24 * 1024)      /* 11 KiB */
+#define CIRCUIT_STACK_READ (16 * 1024)       /* below 1 KiB */
+#define CIRCUIT_STACK_WRITE (16 * 1024)      /* below 1 KiB */
+#define CIRCUIT_STACK_LOAD (16 * 1024)       /* below 1 KiB */
+
 /* The refusals by number. */
 enum {
     CIRCUIT_MALFORMED_LINE = 1,         /* a line that is not 41 bytes, or a column that is no 32-bit number of the form */
@@ -51,11 +75,11 @@ enum {
     CIRCUIT_NO_ARITY_RULE = 7,          /* no arity rule fits */
     CIRCUIT_TOO_WIDE = 8,               /* inputs or outputs above 32 */
     CIRCUIT_LOOSE_NODE = 9,             /* a node other than the last that is nobody's child */
-    CIRCUIT_TOO_MANY_INSTRUCTIONS = 10, /* more than 2,048 */
-    CIRCUIT_TOO_MANY_CELLS = 11,        /* more than 16,384 */
+    CIRCUIT_TOO_MANY_INSTRUCTIONS = 10, /* more than 2,048 instructions */
+    CIRCUIT_TOO_MANY_CELLS = 11,        /* cells that are not 0 to 16,384 */
     CIRCUIT_SHORT_BUFFER = 12,          /* the buffer to be filled or changed is shorter than needed */
     CIRCUIT_WRONG_CODE = 13,            /* numbers that are no flat code */
-    CIRCUIT_WRONG_BLOCK = 14            /* ticks above 4,096, inputs not ticks x n, or controls not 16 */
+    CIRCUIT_WRONG_BLOCK = 14            /* ticks not 0 to 4,096, inputs that are not ticks times the circuit's, or controls that are not 16 */
 };
 
 /* The refusal's number, 0 for an accepted call. */

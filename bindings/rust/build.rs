@@ -1,14 +1,15 @@
-//! Links the archive of the proved engine.
+//! Links the archive of the proved engine, from the folder that CIRCUIT_LIB names, else from target/staticlib.
 use std::env;
 use std::path::Path;
 
 fn main() {
-    let package = env::var("CARGO_MANIFEST_DIR").expect("cargo names the package's folder");
-    let folder = Path::new(&package).join("../../target/staticlib");
+    println!("cargo::rerun-if-env-changed=CIRCUIT_LIB");
+    let named = env::var("CIRCUIT_LIB").unwrap_or_else(|_| "../../target/staticlib".into());
+    let folder = Path::new(&named).canonicalize().unwrap_or_default();
     let archive = folder.join("libcircuit.a");
     println!("cargo::rerun-if-changed={}", archive.display());
     if !archive.is_file() {
-        println!("cargo::error=target/staticlib/libcircuit.a is missing: run `rt staticlib circuit` in the repository first");
+        println!("cargo::error={named}/libcircuit.a is missing: run `rt staticlib circuit` in the repository first");
         return;
     }
     println!("cargo::rustc-link-search=native={}", folder.display());

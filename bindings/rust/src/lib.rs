@@ -23,6 +23,11 @@ use std::fmt;
 
 mod sys;
 
+/// The Rust program in README.md.
+#[cfg(doctest)]
+#[doc = include_str!("../../../README.md")]
+struct Readme;
+
 /// Most nodes of a table, and lines of a file.
 pub const NODES: usize = 512;
 /// Most numbers of a table, three for each node.
@@ -41,6 +46,22 @@ pub const CELLS: usize = 16384;
 pub const TICKS: usize = 4096;
 /// Controls of a call, exactly so many.
 pub const CONTROLS: usize = 16;
+
+/// Bytes of stack for a thread that does nothing but call [`translate`], on x86-64. `bindings/c/circuit.h` says what
+/// these numbers are made of; a caller's own frames come on top.
+pub const STACK_TRANSLATE: usize = 776 * 1024;
+/// The same for [`walk`].
+pub const STACK_WALK: usize = 628 * 1024;
+/// The same for [`run`].
+pub const STACK_RUN: usize = 32 * 1024;
+/// The same for [`check`].
+pub const STACK_CHECK: usize = 24 * 1024;
+/// The same for [`read`].
+pub const STACK_READ: usize = 16 * 1024;
+/// The same for [`write()`].
+pub const STACK_WRITE: usize = 16 * 1024;
+/// The same for [`load`].
+pub const STACK_LOAD: usize = 16 * 1024;
 
 /// Why a call was refused, and where.
 #[derive(Clone, Copy, Debug, PartialEq, Eq, Hash)]
@@ -68,7 +89,7 @@ impl Refusal {
             11 => "cells that are not 0 to 16,384",
             12 => "the buffer to be filled or changed is shorter than needed",
             13 => "numbers that are no flat code",
-            14 => "ticks above 4,096, inputs that are not ticks times the circuit's, or controls that are not 16",
+            14 => "ticks not 0 to 4,096, inputs that are not ticks times the circuit's, or controls that are not 16",
             _ => "no refusal of the document",
         }
     }
@@ -76,29 +97,14 @@ impl Refusal {
 
 impl fmt::Display for Refusal {
     fn fmt(&self, f: &mut fmt::Formatter<'_>) -> fmt::Result {
-        match self.number {
-            1 | 2 => write!(
-                f,
-                "refusal {} at line {}: {}",
-                self.number,
-                self.place,
-                self.meaning()
-            ),
-            3 => write!(
-                f,
-                "refusal 3 at line or node {}: {}",
-                self.place,
-                self.meaning()
-            ),
-            4..=9 => write!(
-                f,
-                "refusal {} at node {}: {}",
-                self.number,
-                self.place,
-                self.meaning()
-            ),
-            _ => write!(f, "refusal {}: {}", self.number, self.meaning()),
-        }
+        let at = match self.number {
+            1 | 2 => " at line ",
+            3 => " at line or node ",
+            4..=9 => " at node ",
+            _ => return write!(f, "refusal {}: {}", self.number, self.meaning()),
+        };
+        let Refusal { number, place } = self;
+        write!(f, "refusal {number}{at}{place}: {}", self.meaning())
     }
 }
 
@@ -195,6 +201,9 @@ pub fn walk(
 }
 
 /// Runs a flat code for a block of ticks, as [`walk`] does a table; any numbers may be given as code.
+///
+/// Fit for an audio thread: it allocates nothing, takes no lock, makes no system call, and its time grows with the
+/// instructions and the ticks alone.
 ///
 /// Refusals: 13, 14 and 12.
 pub fn run(

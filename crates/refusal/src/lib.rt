@@ -27,11 +27,11 @@ pub enum Refusal {
     TooManyInstructions,
     // 11: cells that are not 0 to 16,384
     TooManyCells,
-    // 12: a lent buffer shorter than needed
+    // 12: the buffer to be filled or changed is shorter than needed
     ShortBuffer,
     // 13: numbers that are no flat code
     WrongCode,
-    // 14: ticks, inputs or controls that make no block
+    // 14: ticks not 0 to 4,096, inputs that are not ticks times the circuit's, or controls that are not 16
     WrongBlock,
 }
 

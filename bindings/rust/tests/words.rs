@@ -1,0 +1,141 @@
+//! What is said of a refusal, in docs/FORMAT.md, is said in the same words in the C header, at the engine's enum and by
+//! this package; and the header's limits are this package's.
+use circuit::Refusal;
+
+const FORMAT: &str = include_str!("../../../docs/FORMAT.md");
+const HEADER: &str = include_str!("../../c/circuit.h");
+const ENUM: &str = include_str!("../../../crates/refusal/src/lib.rt");
+
+/// Number, name and words of a refusal.
+type Row = (u32, String, String);
+
+/// The part of a text between two others.
+fn between<'a>(text: &'a str, from: &str, to: &str) -> &'a str {
+    let (_, rest) = text.split_once(from).expect(from);
+    rest.split_once(to).expect(to).0
+}
+
+/// The rows of the document's table, with the place of each: line, node, line or node, or -1.
+fn table() -> Vec<(Row, String)> {
+    let lines = FORMAT.lines().skip_while(|line| *line != "## Refusals");
+    let section = lines.skip(1).take_while(|line| !line.starts_with("## "));
+    let cells = section.filter_map(|line| line.strip_prefix("| ")?.strip_suffix(" |"));
+    let rows = cells.map(|line| line.split(" | ").collect::<Vec<_>>());
+    rows.filter(|cells| cells[0].parse::<u32>().is_ok())
+        .map(|cells| {
+            let [number, name, place, words] = cells[..] else {
+                panic!("four columns: {cells:?}")
+            };
+            let row = (number.parse().unwrap(), name.into(), words.into());
+            (row, place.into())
+        })
+        .collect()
+}
+
+fn rows() -> Vec<Row> {
+    table().into_iter().map(|(row, _)| row).collect()
+}
+
+/// MalformedLine as MALFORMED_LINE.
+fn upper(name: &str) -> String {
+    let mut upper = String::new();
+    for letter in name.chars() {
+        if letter.is_uppercase() && !upper.is_empty() {
+            upper.push('_');
+        }
+        upper.push(letter.to_ascii_uppercase());
+    }
+    upper
+}
+
+#[test]
+fn numbered_from_1_to_14() {
+    let numbers: Vec<u32> = rows().into_iter().map(|(number, _, _)| number).collect();
+    assert_eq!(numbers, (1..=14).collect::<Vec<_>>());
+}
+
+#[test]
+fn in_the_header() {
+    let lines = between(HEADER, "enum {\n", "};").lines();
+    let header: Vec<Row> = lines
+        .map(|line| {
+            let (name, rest) = line.split_once(" = ").expect(line);
+            let (number, _) = rest.split_once([',', ' ']).expect(line);
+            let name = name.trim().strip_prefix("CIRCUIT_").expect(line);
+            let words = between(line, "/* ", " */");
+            (number.parse().expect(line), name.into(), words.into())
+        })
+        .collect();
+    assert_eq!(header, rows());
+}
+
+#[test]
+fn at_the_enum() {
+    let lines: Vec<&str> = between(ENUM, "pub enum Refusal {\n", "\n}")
+        .lines()
+        .collect();
+    let variants: Vec<Row> = lines
+        .chunks(2)
+        .map(|pair| {
+            let comment = pair[0].trim().strip_prefix("// ").expect(pair[0]);
+            let (number, words) = comment.split_once(": ").expect(comment);
+            let name = pair[1]
+                .trim()
+                .trim_end_matches(',')
+                .trim_end_matches("(u32)");
+            (number.parse().expect(comment), upper(name), words.into())
+        })
+        .collect();
+    assert_eq!(variants, rows());
+}
+
+#[test]
+fn by_this_package() {
+    for ((number, _, words), place) in table() {
+        let refusal = Refusal { number, place: 5 };
+        assert_eq!(refusal.meaning(), words);
+        let at = match place.as_str() {
+            "-1" => String::new(),
+            place => format!(" at {place} 5"),
+        };
+        assert_eq!(
+            refusal.to_string(),
+            format!("refusal {number}{at}: {words}")
+        );
+    }
+    for number in [0, rows().len() as u32 + 1] {
+        let refusal = Refusal { number, place: -1 };
+        assert_eq!(refusal.meaning(), "no refusal of the document");
+    }
+}
+
+/// A number that the header defines, alone or as a product in brackets.
+fn defined(name: &str) -> usize {
+    let text = between(HEADER, &format!("#define CIRCUIT_{name} "), "\n");
+    let text = text.split("/*").next().unwrap().trim();
+    let factors = text.trim_matches(['(', ')']).split(" * ");
+    factors.map(|x| x.parse::<usize>().expect(name)).product()
+}
+
+#[test]
+fn limits() {
+    for (name, value) in [
+        ("NODES", circuit::NODES),
+        ("TABLE_NUMBERS", circuit::TABLE_NUMBERS),
+        ("FILE_BYTES", circuit::FILE_BYTES),
+        ("WIDTH", circuit::WIDTH),
+        ("INSTRUCTIONS", circuit::INSTRUCTIONS),
+        ("CELLS", circuit::CELLS),
+        ("TICKS", circuit::TICKS),
+        ("CONTROLS", circuit::CONTROLS),
+        ("STACK_TRANSLATE", circuit::STACK_TRANSLATE),
+        ("STACK_WALK", circuit::STACK_WALK),
+        ("STACK_RUN", circuit::STACK_RUN),
+        ("STACK_CHECK", circuit::STACK_CHECK),
+        ("STACK_READ", circuit::STACK_READ),
+        ("STACK_WRITE", circuit::STACK_WRITE),
+        ("STACK_LOAD", circuit::STACK_LOAD),
+    ] {
+        assert_eq!(value, defined(name), "{name}");
+    }
+}
