@@ -8,3 +8,6 @@ pub mod Sayings
 pub mod WholeLines
 pub mod Blocks
 pub mod Reading
+pub mod Splits
+pub mod Joined
+pub mod Bounds

@@ -1,4 +1,4 @@
--- `player::samples::read_block` meets its contract.
+-- `player::samples::read_block` meets its contract: the ticks before `at` are read.
 use Prim.Native.Nat.{_-_}
 use native.Mathlib.Omega.{arith}
 use borrow.Author.Needs.{needs}
@@ -46,7 +46,8 @@ returns-3 : tie.Need-returns-3 Inv-loop μ-loop
 returns-3 c =
     let a = c .before .before .before .before .before .before .before .args in
     let l = c .before .before .before .before .loop in
-    ends-rest (a .text .now) (a .inputs) (a .samples .now) (l .samples) (l .at) (l .ticks) (l .next) (l .inv) (c .before .before .before .if1 .left) (c .before .before .if2 .left) (c .before .find .result) (c .before .find .ensures .is) (c .if3 .taken)
+    let find = c .before .find in
+    ends-rest (a .text .now) (a .inputs) (a .samples .now) (l .samples) (l .at) (l .ticks) (l .next) (l .inv) (c .before .before .before .if1 .left) (c .before .before .if2 .left) (find .result) (find .ensures .is) (c .if3 .taken)
 
 sub-said : tie.Need-sub-said Inv-loop μ-loop
 sub-said c = search needs
@@ -70,7 +71,9 @@ returns-4 : tie.Need-returns-4 Inv-loop μ-loop
 returns-4 c =
     let a = c .before .before .before .before .before .before .before .before .before .before .before .args in
     let l = c .before .before .before .before .before .before .before .before .loop in
-    ends-malformed (a .text .now) (a .inputs) (a .samples .now) (l .samples) (l .at) (l .ticks) (l .next) (l .inv) (c .before .before .before .before .before .before .before .if1 .left) (c .before .before .before .before .before .before .if2 .left) (c .before .before .before .before .before .find .result) (c .before .before .before .before .before .find .ensures .is) (omega arith) (c .before .before .said .result) (c .before .before .said .ensures) (c .enum-told .given .1)
+    let find = c .before .before .before .before .before .find in
+    let said = c .before .before .said in
+    ends-malformed (a .text .now) (a .inputs) (a .samples .now) (l .samples) (l .at) (l .ticks) (l .next) (l .inv) (c .before .before .before .before .before .before .before .if1 .left) (c .before .before .before .before .before .before .if2 .left) (find .result) (find .ensures .is) (omega arith) (said .result) (said .ensures) (c .enum-told .given .1)
 
 enum-known-kind : tie.Need-enum-known-kind Inv-loop μ-loop
 enum-known-kind c = search needs
@@ -85,7 +88,9 @@ returns-5 : tie.Need-returns-5 Inv-loop μ-loop
 returns-5 c =
     let a = c .before .before .before .before .before .before .before .before .before .before .before .before .args in
     let l = c .before .before .before .before .before .before .before .before .before .loop in
-    ends-control (a .text .now) (a .inputs) (a .samples .now) (l .samples) (l .at) (l .ticks) (l .next) (l .inv) (c .before .before .before .before .before .before .before .before .if1 .left) (c .before .before .before .before .before .before .before .if2 .left) (c .before .before .before .before .before .before .find .result) (c .before .before .before .before .before .before .find .ensures .is) (omega arith) (c .before .before .before .said .result) (c .before .before .before .said .ensures) (c .before .kind .given .0 .0) (c .before .kind .given .0 .1 .0) (c .before .kind .given .1)
+    let find = c .before .before .before .before .before .before .find in
+    let said = c .before .before .before .said in
+    ends-control (a .text .now) (a .inputs) (a .samples .now) (l .samples) (l .at) (l .ticks) (l .next) (l .inv) (c .before .before .before .before .before .before .before .before .if1 .left) (c .before .before .before .before .before .before .before .if2 .left) (find .result) (find .ensures .is) (omega arith) (said .result) (said .ensures) (c .before .kind .given .0 .0) (c .before .kind .given .0 .1 .0) (c .before .kind .given .1)
 
 enum-told-2 : tie.Need-enum-told-2 Inv-loop μ-loop
 enum-told-2 c = search needs
@@ -103,7 +108,9 @@ store-requires : tie.Need-store-requires Inv-loop μ-loop
 store-requires c κs =
     let a = c .before .before .before .before .before .before .before .before .before .before .before .before .before .args in
     let l = c .before .before .before .before .before .before .before .before .before .before .loop in
-    tick-room (a .text .now) (a .inputs) (a .samples .now) (l .samples) (l .at) (l .ticks) (l .next) (l .inv) (c .before .before .before .before .before .before .before .before .before .if1 .left) (c .before .before .before .before .before .before .before .before .if2 .left) (c .before .before .before .before .before .before .before .find .result) (c .before .before .before .before .before .before .before .find .ensures .is) (omega arith) (c .before .before .before .before .said .result) (c .before .before .before .before .said .ensures) (c .before .before .enum-told2 .given .1)
+    let find = c .before .before .before .before .before .before .before .find in
+    let said = c .before .before .before .before .said in
+    tick-room (a .text .now) (a .inputs) (a .samples .now) (l .samples) (l .at) (l .ticks) (l .next) (l .inv) (c .before .before .before .before .before .before .before .before .before .if1 .left) (c .before .before .before .before .before .before .before .before .if2 .left) (find .result) (find .ensures .is) (omega arith) (said .result) (said .ensures) (c .before .before .enum-told2 .given .1)
 
 add-next : tie.Need-add-next Inv-loop μ-loop
 add-next c = search needs
@@ -121,7 +128,9 @@ loop-again : tie.Need-loop-again Inv-loop μ-loop
 loop-again c =
     let a = c .before .before .before .before .before .before .before .before .before .before .before .before .before .before .before .before .args in
     let l = c .before .before .before .before .before .before .before .before .before .before .before .before .before .loop in
-    one-tick (a .text .now) (a .inputs) (a .samples .now) (l .samples) (l .at) (l .ticks) (l .next) (l .inv) (c .before .before .before .before .before .before .before .before .before .before .before .before .if1 .left) (c .before .before .before .before .before .before .before .before .before .before .before .if2 .left) (c .before .before .before .before .before .before .before .before .before .before .find .result) (c .before .before .before .before .before .before .before .before .before .before .find .ensures .is) (omega arith) (c .before .before .before .before .before .before .before .said .result) (c .before .before .before .before .before .before .before .said .ensures) (_) (c .before .before .before .before .before .enum-told2 .given .1) (c .before .before .store .ensures)
+    let find = c .before .before .before .before .before .before .before .before .before .before .find in
+    let said = c .before .before .before .before .before .before .before .said in
+    one-tick (a .text .now) (a .inputs) (a .samples .now) (l .samples) (l .at) (l .ticks) (l .next) (l .inv) (c .before .before .before .before .before .before .before .before .before .before .before .before .if1 .left) (c .before .before .before .before .before .before .before .before .before .before .before .if2 .left) (find .result) (find .ensures .is) (omega arith) (said .result) (said .ensures) (_) (c .before .before .before .before .before .enum-told2 .given .1) (c .before .before .store .ensures)
 
 pub read-block-spec : {M : Type 1} → statement M
 read-block-spec =
