@@ -11,3 +11,5 @@ pub mod Reading
 pub mod Splits
 pub mod Joined
 pub mod Bounds
+pub mod Examples
+mod Borders
