@@ -64,7 +64,7 @@ last-line n controls rest o w =
     let l : length ended ≡ suc (length rest) = omega (arith, length-append rest (lineFeed ∷ [])) in
     let p = first-whole ended (omega (arith, ap length f)) in
     let d : drop (suc (length (textOf ended))) ended ≡ [] = drop-of-length-le ended {i = suc (length (textOf ended))} (omega (arith, ap length f)) in
-    let q = no-whole rest o (omega (arith, ap length t)) in
+    let q = no-whole rest (omega arith) (omega (arith, ap length t)) in
     one-line n controls ended _ (p .split ∙ ap {B = List (List ℕ)} (λ u. (textOf ended ++ (lineFeed ∷ [])) ∷ lines u) d)
     ∙ ap (λ (u : List ℕ). lineBefore (said n u) controls (λ cs. [])) (p .text ∙ f ∙ sym t)
     ∙ sym (one-line n controls rest rest (q .split))

@@ -2,7 +2,7 @@
 use Prim.Native.Nat.{ℕ, _-_, _*_, _≤_, _<_}
 use mathlib.Core.Path.{_≡_}
 use mathlib.Core.Bool.{false}
-use mathlib.Core.List.{List, [], _∷_, _++_, map}
+use mathlib.Core.List.{List, [], _∷_, _++_, map, flatten}
 use mathlib.Core.Logic.{_⊎_}
 use lib.ListN.{length, take, drop, set}
 use Rattle.word.specs.Tick.{Tick, tick}
@@ -32,6 +32,10 @@ pub record Bounded (n : ℕ) (text samples : List ℕ) (block : Block) : Type 0 
 
 abbrev pub BlockBounded : Type 0
 BlockBounded = (n : ℕ) (text samples : List ℕ) → Bounded n text samples (reads n text samples .block)
+
+-- the words that a block has put first are the inputs of its ticks, n to a tick
+abbrev pub InputsFirst : Type 0
+InputsFirst = (n : ℕ) (text samples : List ℕ) → take (reads n text samples .block .ticks * n) (reads n text samples .samples) ≡ flatten (starting n mostTicks (length samples) (lines text) .ticks)
 
 -- the ticks after a block, by why it ends: a control holds from then on
 abbrev pub goesOn : ℕ → List ℕ → Stop → List ℕ → List Tick

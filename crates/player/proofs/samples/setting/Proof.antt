@@ -1,4 +1,5 @@
 -- `player::samples::setting` meets its contract: each answer by the words that were found.
+use native.Mathlib.Omega.{arith}
 use borrow.Author.Needs.{needs}
 use Rattle.player.proofs.Settings.{no-slot, no-value, three-words, large-slot, is-setting}
 use Rattle.player.proofs.samples.setting.Statement.{statement}
@@ -88,7 +89,7 @@ returns-4 c =
     let number2 = c .before .before .before .before .before .before .before .number2 in
     let slot-read = c .before .before .before .before .before .before .before .before .before .before .before .slot-read in
     let value-read = c .before .before .before .before .before .value-read in
-    large-slot (a .line .now) (a .at) (next-word .result) (next-word2 .result) (next-word3 .result) (next-word .ensures) (next-word2 .ensures) (next-word3 .ensures) (number .result) (number2 .result) (slot-read .given .0 .0) (value-read .given .0 .0) (slot-read .given .1) (number .ensures) (value-read .given .1) (number2 .ensures) (c .before .if1 .left) (c .if2 .taken)
+    large-slot (a .line .now) (a .at) (next-word .result) (next-word2 .result) (next-word3 .result) (next-word .ensures) (next-word2 .ensures) (next-word3 .ensures) (number .result) (number2 .result) (slot-read .given .0 .0) (value-read .given .0 .0) (slot-read .given .1) (number .ensures) (value-read .given .1) (number2 .ensures) (c .before .if1 .left) (omega arith)
 
 returns-5 : tie.Need-returns-5
 returns-5 c =
@@ -100,7 +101,7 @@ returns-5 c =
     let number2 = c .before .before .before .before .before .before .before .number2 in
     let slot-read = c .before .before .before .before .before .before .before .before .before .before .before .slot-read in
     let value-read = c .before .before .before .before .before .value-read in
-    is-setting (a .line .now) (a .at) (next-word .result) (next-word2 .result) (next-word3 .result) (next-word .ensures) (next-word2 .ensures) (next-word3 .ensures) (number .result) (number2 .result) (slot-read .given .0 .0) (value-read .given .0 .0) (slot-read .given .1) (number .ensures) (value-read .given .1) (number2 .ensures) (c .before .if1 .left) (c .if2 .left)
+    is-setting (a .line .now) (a .at) (next-word .result) (next-word2 .result) (next-word3 .result) (next-word .ensures) (next-word2 .ensures) (next-word3 .ensures) (number .result) (number2 .result) (slot-read .given .0 .0) (value-read .given .0 .0) (slot-read .given .1) (number .ensures) (value-read .given .1) (number2 .ensures) (c .before .if1 .left) (omega arith)
 
 pub setting-spec : {M : Type 1} → statement M
 setting-spec =
