@@ -1,0 +1,15 @@
+pub mod Parts
+pub mod UpTo
+pub mod Words
+pub mod Same
+pub mod Lines
+pub mod Settings
+pub mod Sayings
+pub mod WholeLines
+pub mod Blocks
+pub mod Reading
+pub mod Splits
+pub mod Joined
+pub mod Bounds
+pub mod Examples
+mod Borders
