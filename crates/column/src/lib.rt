@@ -3,6 +3,7 @@ mod columns;
 mod reader;
 mod writer;
 
+pub use columns::put_number;
 pub use reader::read;
 use refusal::Refusal;
 pub use writer::put_columns;

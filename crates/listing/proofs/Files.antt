@@ -19,9 +19,10 @@ use Rattle.column.specs.File.{fileRefusal, tableOf, reading}
 use Rattle.column.proofs.Refusing.{read-counted}
 use Rattle.column.proofs.Storing.{file-right, numbers-length}
 use Rattle.column.proofs.FileText.{lines-few}
+use Rattle.column.specs.Put.{Put}
+use Rattle.column.proofs.Stores.{begins-of}
 use Rattle.listing.specs.Print.{refusalText, fileText, Printed}
-use Rattle.listing.specs.Steps.{Put, PrintedTable}
-use Rattle.listing.proofs.Tables.{begins-of}
+use Rattle.listing.specs.Steps.{PrintedTable}
 
 module _ (file table : List ℕ) (a : ReadAnswer) (table′ : List ℕ) (q : outcome (readAnswer a) table′ ≡ reading file table) where
   answered : readAnswer a ≡ reading file table .answer

@@ -10,10 +10,11 @@ use Rattle.word.specs.Word.{value}
 use Rattle.word.specs.Tick.{Words}
 use Rattle.word.proofs.Each.{words-take, words-drop}
 use Rattle.column.specs.Line.{lineFeed, columns}
+use Rattle.column.specs.Put.{Put}
 use Rattle.column.proofs.Stores.{sets-append}
 use Rattle.column.proofs.Writes.{columns-length}
 use Rattle.listing.specs.Print.{line, rows}
-use Rattle.listing.specs.Steps.{Full, Rows, Put}
+use Rattle.listing.specs.Steps.{Full, Rows}
 
 pub line-length : (ws : List ℕ) → Words ws → length (line ws) ≡ 12 * length ws + 1
 unfolding line
