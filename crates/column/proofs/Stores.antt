@@ -5,8 +5,8 @@ use mathlib.Core.List.{List, [], _∷_, _++_}
 use native.Mathlib.Nat.{zero-add, add-zero}
 use native.Mathlib.Numerals.{add-one, add-two}
 use native.Mathlib.Omega.{arith}
-use lib.ListN.{length, set, drop, length-append}
-use lib.Seq.{sets, sets-eq, set-comm, length-sets}
+use lib.ListN.{length, set, drop}
+use lib.Seq.{sets, sets-eq, set-comm}
 use Rattle.column.specs.Put.{Put, Begins}
 
 pub set-sets : (l ys : List ℕ) (a v b : ℕ) → a < b → sets (set l a v) b ys ≡ set (sets l b ys) a v
@@ -35,16 +35,6 @@ pub begins-of : (shown text : List ℕ) (n : ℕ) (text′ : List ℕ) → Put s
 begins-of shown text n text′ p =
     let e : n ≡ length shown = omega (arith, p .next-is) in
     record { bytes = e; put = p .put ∙ sets-front shown text (omega (arith, p .within)) ∙ ap (λ (k : ℕ). shown ++ drop k text) (sym e) }
-
--- a text put behind another
-pub put-append : (xs ys : List ℕ) {text : List ℕ} {from next end : ℕ} {text₁ text₂ : List ℕ} → Put xs text from next text₁ → Put ys text₁ next end text₂ → Put (xs ++ ys) text from end text₂
-put-append xs ys {text} {from} p q =
-    let l : length (xs ++ ys) ≡ length xs + length ys = length-append xs ys in
-    record {
-      next-is = omega (arith, p .next-is, q .next-is);
-      within = omega (arith, q .within, ap length (p .put) ∙ length-sets text from xs);
-      put = q .put ∙ rw (p .put, p .next-is) (sym (sets-append xs ys text from));
-    }
 
 pub three-stores : (l : List ℕ) (i a b c a′ b′ c′ : ℕ) → a ≡ a′ → b ≡ b′ → c ≡ c′ → set (set (set l i a) (i + 1) b) (i + 2) c ≡ sets l i (a′ ∷ (b′ ∷ (c′ ∷ [])))
 three-stores l i a b c a′ b′ c′ p q r = rw (p, q, r, add-one i, add-two i)
