@@ -69,7 +69,7 @@ fn natural(text: &[u8], from: usize, most: u32) -> Number
 }
 
 // The word of the number that a column is the text of.
-pub(crate) fn number(column: &[u8]) -> Number
+pub fn number(column: &[u8]) -> Number
     ensures { λ r. ⌜ r ≡ found (numberIn (now (column .entry))) ⌝ }
 {
     let from = spaces(column);

@@ -3,6 +3,7 @@ mod columns;
 mod reader;
 mod writer;
 
+pub use columns::number as read_number;
 pub use columns::put_number;
 pub use reader::read;
 use refusal::Refusal;
@@ -30,7 +31,7 @@ pub enum WriteAnswer {
 }
 
 // A column as read: the word of a 32-bit number of the form, or no such number.
-pub(crate) enum Number {
+pub enum Number {
     Word(u32),
     Malformed,
 }

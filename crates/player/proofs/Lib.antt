@@ -1,3 +1,13 @@
+pub mod Parts
+pub mod UpTo
+pub mod Words
+pub mod Same
+pub mod Lines
+pub mod Settings
+pub mod Sayings
+pub mod WholeLines
+pub mod Blocks
+pub mod Reading
 pub mod Filling
 pub mod Exact
 pub mod TickLines

@@ -7,6 +7,7 @@ use Rattle.word.specs.Choice.{pick, _and_}
 use Rattle.word.specs.Word.{value}
 use Rattle.column.specs.Number.{space, numeral}
 use Rattle.column.specs.Line.{lineFeed}
+use Rattle.player.specs.Samples.{mostTicks}
 
 -- the line of a tick with these outputs; without outputs it is empty
 abbrev pub tickLine : List ℕ → List ℕ
@@ -22,10 +23,6 @@ ticksText m (suc k) ws = tickLine (take m ws) ++ ticksText m k (drop m ws)
 -- "inputs or outputs above 32" are no circuit's
 abbrev pub mostOutputs : ℕ
 mostOutputs = 32
-
--- the ticks that are played at once
-abbrev pub mostTicks : ℕ
-mostTicks = 256
 
 -- the lines of a block of ticks; of one that is too large, none
 unfoldable pub blockText : (m k : ℕ) → List ℕ → List ℕ

@@ -1,5 +1,10 @@
-// Playing a circuit on samples that stand in text: lines of samples read, lines of ticks put.
+// A circuit on samples that stand in text: the lines of samples read, the lines of ticks put.
 mod numerals;
+mod samples;
 mod ticks;
 
+pub use samples::Block;
+pub use samples::Stop;
+pub use samples::circuit_bytes;
+pub use samples::read_block;
 pub use ticks::put_ticks;

@@ -1,0 +1,73 @@
+-- `player::samples::is_tick` meets its contract.
+use Prim.Native.Nat.{_-_}
+use native.Mathlib.Omega.{arith}
+use borrow.Author.Needs.{needs}
+use lib.ListN.{length}
+use Rattle.player.proofs.Lines.{Counting, counting-starts, counted-all, counted-other, counted-one}
+use Rattle.player.proofs.samples.is_tick.Statement.{statement}
+use Rattle.player.proofs.samples.is_tick.Tie as tie
+
+abbrev Inv-loop : tie.InvT-loop
+Inv-loop line inputs at₀ count₀ at count = Counting line at count
+
+abbrev μ-loop : tie.MeasureT-loop
+μ-loop line inputs at₀ count₀ at count = length line - at
+
+loop-holds : tie.Need-loop-holds Inv-loop μ-loop
+loop-holds c = counting-starts (c .before .args .line .now)
+
+next-word-requires : tie.Need-next-word-requires Inv-loop μ-loop
+next-word-requires c κs = search needs
+
+returns : tie.Need-returns Inv-loop μ-loop
+returns c = counted-all (c .before .before .before .before .args .line .now) (c .before .before .loop .at) (c .before .next-word .result) (c .before .next-word .ensures) (c .before .before .loop .count) (c .before .before .before .before .args .inputs) (c .before .before .loop .inv) (c .if1 .taken)
+
+sub-number : tie.Need-sub-number Inv-loop μ-loop
+sub-number c = search needs
+
+part-number-start : tie.Need-part-number-start Inv-loop μ-loop
+part-number-start c = search needs
+
+part-number-end : tie.Need-part-number-end Inv-loop μ-loop
+part-number-end c = search needs
+
+number-requires : tie.Need-number-requires Inv-loop μ-loop
+number-requires c κs = search needs
+
+enum-told : tie.Need-enum-told Inv-loop μ-loop
+enum-told c = search needs
+
+enum-told-2 : tie.Need-enum-told-2 Inv-loop μ-loop
+enum-told-2 c = search needs
+
+returns-2 : tie.Need-returns-2 Inv-loop μ-loop
+returns-2 c = counted-other (c .before .before .before .before .before .before .before .before .args .line .now) (c .before .before .before .before .before .before .loop .at) (c .before .before .before .before .before .next-word .result) (c .before .before .before .before .before .next-word .ensures) (c .before .before .before .before .before .before .loop .count) (c .before .before .before .before .before .before .loop .inv) (omega arith) (c .before .before .number .result) (c .before .before .number .ensures) (c .before .before .before .before .before .before .before .before .args .inputs) (c .enum-told2 .given .1)
+
+add-count : tie.Need-add-count Inv-loop μ-loop
+add-count c = search needs
+
+loop-less : tie.Need-loop-less Inv-loop μ-loop
+loop-less c = search needs
+
+loop-again : tie.Need-loop-again Inv-loop μ-loop
+loop-again c = counted-one (c .before .before .before .before .before .before .before .before .args .line .now) (c .before .before .before .before .before .before .loop .at) (c .before .before .before .before .before .next-word .result) (c .before .before .before .before .before .next-word .ensures) (c .before .before .before .before .before .before .loop .count) (c .before .before .before .before .before .before .loop .inv) (omega arith) (c .before .before .number .result) (c .before .before .number .ensures) (c .enum-told .given .0 .0) (c .enum-told .given .1)
+
+pub is-tick-spec : {M : Type 1} → statement M
+is-tick-spec =
+    tie.close
+    (tie.spec
+    Inv-loop
+    μ-loop
+    loop-holds
+    next-word-requires
+    returns
+    sub-number
+    part-number-start
+    part-number-end
+    number-requires
+    enum-told
+    enum-told-2
+    returns-2
+    add-count
+    loop-less
+    loop-again)

@@ -1,0 +1,91 @@
+-- `player::samples::setting` meets its contract.
+use borrow.Author.Needs.{needs}
+use borrow.Author.Needs.{needs}
+use Rattle.player.proofs.Settings.{no-slot, no-value, three-words, large-slot, is-setting}
+use Rattle.player.proofs.samples.setting.Statement.{statement}
+use Rattle.player.proofs.samples.setting.Tie as tie
+
+next-word-requires : tie.Need-next-word-requires
+next-word-requires c κs = search needs
+
+sub-number : tie.Need-sub-number
+sub-number c = search needs
+
+part-number-start : tie.Need-part-number-start
+part-number-start c = search needs
+
+part-number-end : tie.Need-part-number-end
+part-number-end c = search needs
+
+number-requires : tie.Need-number-requires
+number-requires c κs = search needs
+
+enum-known-slot-read : tie.Need-enum-known-slot-read
+enum-known-slot-read c = search needs
+
+enum-told : tie.Need-enum-told
+enum-told c = search needs
+
+returns : tie.Need-returns
+returns c = no-slot (c .before .before .before .before .before .before .args .line .now) (c .before .before .before .before .before .before .args .at) (c .before .before .before .before .next-word .result) (c .before .before .before .before .next-word .ensures) (c .before .before .number .result) (c .before .before .number .ensures) (c .enum-told .given .1)
+
+next-word-requires-2 : tie.Need-next-word-requires-2
+next-word-requires-2 c κs = search needs
+
+sub-number-2 : tie.Need-sub-number-2
+sub-number-2 c = search needs
+
+part-number-start-2 : tie.Need-part-number-start-2
+part-number-start-2 c = search needs
+
+part-number-end-2 : tie.Need-part-number-end-2
+part-number-end-2 c = search needs
+
+number-requires-2 : tie.Need-number-requires-2
+number-requires-2 c κs = search needs
+
+enum-known-value-read : tie.Need-enum-known-value-read
+enum-known-value-read c = search needs
+
+enum-told-2 : tie.Need-enum-told-2
+enum-told-2 c = search needs
+
+returns-2 : tie.Need-returns-2
+returns-2 c = no-value (c .before .before .before .before .before .before .before .before .before .before .before .before .args .line .now) (c .before .before .before .before .before .before .before .before .before .before .before .before .args .at) (c .before .before .before .before .before .before .before .before .before .before .next-word .result) (c .before .before .before .before .before .before .before .before .before .before .next-word .ensures) (c .before .before .before .before .before .before .before .before .number .result) (c .before .before .before .before .before .before .before .before .number .ensures) (c .before .before .before .before .before .before .slot-read .given .0 .0) (c .before .before .before .before .before .before .slot-read .given .1) (c .before .before .before .before .next-word2 .result) (c .before .before .before .before .next-word2 .ensures) (c .before .before .number2 .result) (c .before .before .number2 .ensures) (c .enum-told2 .given .1)
+
+next-word-requires-3 : tie.Need-next-word-requires-3
+next-word-requires-3 c κs = search needs
+
+returns-3 : tie.Need-returns-3
+returns-3 c = three-words (c .before .before .before .before .before .before .before .before .before .before .before .before .before .before .before .before .args .line .now) (c .before .before .before .before .before .before .before .before .before .before .before .before .before .before .before .before .args .at) (c .before .before .before .before .before .before .before .before .before .before .before .before .before .before .next-word .result) (c .before .before .before .before .before .before .before .before .next-word2 .result) (c .before .before .next-word3 .result) (c .before .before .before .before .before .before .before .before .before .before .before .before .before .before .next-word .ensures) (c .before .before .before .before .before .before .before .before .next-word2 .ensures) (c .before .before .next-word3 .ensures) (c .before .before .before .before .before .before .before .before .before .before .before .before .number .result) (c .before .before .before .before .before .before .number2 .result) (c .before .before .before .before .before .before .before .before .before .before .slot-read .given .0 .0) (c .before .before .before .before .value-read .given .0 .0) (c .before .before .before .before .before .before .before .before .before .before .slot-read .given .1) (c .before .before .before .before .before .before .before .before .before .before .before .before .number .ensures) (c .before .before .before .before .value-read .given .1) (c .before .before .before .before .before .before .number2 .ensures) (c .if1 .taken)
+
+returns-4 : tie.Need-returns-4
+returns-4 c = large-slot (c .before .before .before .before .before .before .before .before .before .before .before .before .before .before .before .before .before .args .line .now) (c .before .before .before .before .before .before .before .before .before .before .before .before .before .before .before .before .before .args .at) (c .before .before .before .before .before .before .before .before .before .before .before .before .before .before .before .next-word .result) (c .before .before .before .before .before .before .before .before .before .next-word2 .result) (c .before .before .before .next-word3 .result) (c .before .before .before .before .before .before .before .before .before .before .before .before .before .before .before .next-word .ensures) (c .before .before .before .before .before .before .before .before .before .next-word2 .ensures) (c .before .before .before .next-word3 .ensures) (c .before .before .before .before .before .before .before .before .before .before .before .before .before .number .result) (c .before .before .before .before .before .before .before .number2 .result) (c .before .before .before .before .before .before .before .before .before .before .before .slot-read .given .0 .0) (c .before .before .before .before .before .value-read .given .0 .0) (c .before .before .before .before .before .before .before .before .before .before .before .slot-read .given .1) (c .before .before .before .before .before .before .before .before .before .before .before .before .before .number .ensures) (c .before .before .before .before .before .value-read .given .1) (c .before .before .before .before .before .before .before .number2 .ensures) (c .before .if1 .left) (c .if2 .taken)
+
+returns-5 : tie.Need-returns-5
+returns-5 c = is-setting (c .before .before .before .before .before .before .before .before .before .before .before .before .before .before .before .before .before .args .line .now) (c .before .before .before .before .before .before .before .before .before .before .before .before .before .before .before .before .before .args .at) (c .before .before .before .before .before .before .before .before .before .before .before .before .before .before .before .next-word .result) (c .before .before .before .before .before .before .before .before .before .next-word2 .result) (c .before .before .before .next-word3 .result) (c .before .before .before .before .before .before .before .before .before .before .before .before .before .before .before .next-word .ensures) (c .before .before .before .before .before .before .before .before .before .next-word2 .ensures) (c .before .before .before .next-word3 .ensures) (c .before .before .before .before .before .before .before .before .before .before .before .before .before .number .result) (c .before .before .before .before .before .before .before .number2 .result) (c .before .before .before .before .before .before .before .before .before .before .before .slot-read .given .0 .0) (c .before .before .before .before .before .value-read .given .0 .0) (c .before .before .before .before .before .before .before .before .before .before .before .slot-read .given .1) (c .before .before .before .before .before .before .before .before .before .before .before .before .before .number .ensures) (c .before .before .before .before .before .value-read .given .1) (c .before .before .before .before .before .before .before .number2 .ensures) (c .before .if1 .left) (c .if2 .left)
+
+pub setting-spec : {M : Type 1} → statement M
+setting-spec =
+    tie.close
+    (tie.spec
+    next-word-requires
+    sub-number
+    part-number-start
+    part-number-end
+    number-requires
+    enum-known-slot-read
+    enum-told
+    returns
+    next-word-requires-2
+    sub-number-2
+    part-number-start-2
+    part-number-end-2
+    number-requires-2
+    enum-known-value-read
+    enum-told-2
+    returns-2
+    next-word-requires-3
+    returns-3
+    returns-4
+    returns-5)
