@@ -11,3 +11,4 @@ pub mod Reading
 pub mod Filling
 pub mod Exact
 pub mod TickLines
+pub mod Within
