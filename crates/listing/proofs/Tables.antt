@@ -1,9 +1,9 @@
 -- The print of a table, by what the translator answered.
 use Prim.Native.Nat.{ℕ, _^_, _≤_, _<_}
-use mathlib.Core.Path.{_≡_, sym, ap, _∙_}
-use mathlib.Core.List.{List, _++_}
+use mathlib.Core.Path.{_≡_, sym, ap}
+use mathlib.Core.List.{List}
 use native.Mathlib.Omega.{arith}
-use lib.ListN.{length, getD, take, drop}
+use lib.ListN.{length, getD, take}
 use Rattle.word.specs.Tick.{zeros}
 use Rattle.word.proofs.Each.{words-of}
 use Rattle.refusal.specs.declared.Refusal.{Refusal}

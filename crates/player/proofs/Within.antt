@@ -1,6 +1,6 @@
 -- What is read lies within its text: a block, which has at most 256 ticks and as many words as there is room for, and the circuit.
 use Prim.Native.Nat.{ℕ, suc, _+_, _-_, _*_, _≤_}
-use mathlib.Core.Path.{_≡_, refl, sym, ap, _∙_}
+use mathlib.Core.Path.{_≡_, refl, ap}
 use mathlib.Core.Bool.{Bool, true, false}
 use mathlib.Core.List.{List, [], _∷_, flatten}
 use native.Mathlib.Nat.{zero-mul, suc-mul}

@@ -1,5 +1,5 @@
 -- `player::numerals::decimal_bytes` meets its contract: the digits that are counted and those that are left are all.
-use Prim.Native.Nat.{_+_, _≤_}
+use Prim.Native.Nat.{_+_}
 use mathlib.Core.Path.{_≡_, ap}
 use native.Mathlib.Omega.{arith}
 use borrow.Author.Needs.{needs}

@@ -1,8 +1,8 @@
 -- `player::ticks::put_tick` meets its contract: the line from output j on completes what is put.
 use Prim.Native.Nat.{_-_, _≤_}
-use mathlib.Core.Path.{_≡_, ap, _∙_}
+use mathlib.Core.Path.{_∙_}
 use native.Mathlib.Omega.{arith}
-use lib.ListN.{length, drop}
+use lib.ListN.{drop}
 use Rattle.player.specs.Ticks.{tickLine}
 use Rattle.player.proofs.Filling.{Filling, filling-start}
 use Rattle.player.proofs.TickLines.{empty-room, empty-put, more-room, more-next, last-room, last-put}

@@ -1,7 +1,6 @@
 -- `player::ticks::put_ticks` meets its contract: a block within the bounds has room.
 use native.Mathlib.Omega.{arith}
 use Rattle.player.proofs.TickLines.{block-fits, block-wide, block-long, block-put}
-use borrow.Author.Needs.{needs}
 use Rattle.player.proofs.ticks.put_ticks.Statement.{statement}
 use Rattle.player.proofs.ticks.put_ticks.Tie as tie
 
