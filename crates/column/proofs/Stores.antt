@@ -5,7 +5,7 @@ use mathlib.Core.List.{List, [], _∷_, _++_}
 use native.Mathlib.Nat.{zero-add, add-zero}
 use native.Mathlib.Numerals.{add-one, add-two}
 use native.Mathlib.Omega.{arith}
-use lib.ListN.{length, set, drop}
+use lib.ListN.{length, set, drop, length-append}
 use lib.Seq.{sets, sets-eq, set-comm}
 use Rattle.column.specs.Put.{Put, Begins}
 
@@ -35,6 +35,11 @@ pub begins-of : (shown text : List ℕ) (n : ℕ) (text′ : List ℕ) → Put s
 begins-of shown text n text′ p =
     let e : n ≡ length shown = omega (arith, p .next-is) in
     record { bytes = e; put = p .put ∙ sets-front shown text (omega (arith, p .within)) ∙ ap (λ (k : ℕ). shown ++ drop k text) (sym e) }
+
+pub begins-within : {shown text : List ℕ} {n : ℕ} {text′ : List ℕ} → Begins shown text n text′ → n ≤ length text′
+begins-within {shown} {text} {n} p =
+    let l : length (shown ++ drop n text) ≡ length shown + length (drop n text) = length-append shown (drop n text) in
+    rw (p .put) (omega (arith, p .bytes))
 
 pub three-stores : (l : List ℕ) (i a b c a′ b′ c′ : ℕ) → a ≡ a′ → b ≡ b′ → c ≡ c′ → set (set (set l i a) (i + 1) b) (i + 2) c ≡ sets l i (a′ ∷ (b′ ∷ (c′ ∷ [])))
 three-stores l i a b c a′ b′ c′ p q r = rw (p, q, r, add-one i, add-two i)

@@ -1,7 +1,7 @@
 -- `console::playing::play_block` is safe: the block lies within the rest.
 use native.Mathlib.Omega.{arith}
 use Rattle.player.proofs.Within.{block-within}
-use Rattle.console.proofs.Codes.{part-ends, inputs-fit}
+use Rattle.console.proofs.Bounds.{part-ends, inputs-fit}
 use borrow.Author.Needs.{needs}
 use Rattle.console.proofs.playing.play_block.Statement.{statement}
 use Rattle.console.proofs.playing.play_block.Tie as tie

@@ -1,5 +1,5 @@
 -- `console::playing::play_input` is safe: the circuit lies within what is held, the samples behind it.
-use Rattle.console.proofs.Codes.{circuit-ends}
+use Rattle.console.proofs.Bounds.{circuit-ends}
 use mathlib.Core.Path.{sym}
 use native.Mathlib.Omega.{arith}
 use lib.Seq.{length-take-le}

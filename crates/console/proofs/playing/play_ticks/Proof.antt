@@ -2,7 +2,7 @@
 use mathlib.Core.Path.{sym}
 use native.Mathlib.Omega.{arith}
 use lib.Seq.{length-take-le}
-use Rattle.console.proofs.Codes.{begins-within}
+use Rattle.column.proofs.Stores.{begins-within}
 use borrow.Author.Needs.{needs}
 use Rattle.console.proofs.playing.play_ticks.Statement.{statement}
 use Rattle.console.proofs.playing.play_ticks.Tie as tie

@@ -3,7 +3,7 @@ use mathlib.Core.Path.{sym}
 use native.Mathlib.Omega.{arith}
 use lib.Seq.{length-take-le}
 use Rattle.listing.proofs.Files.{read-within}
-use Rattle.console.proofs.Codes.{uncoded}
+use Rattle.console.proofs.Bounds.{uncoded}
 use borrow.Author.Needs.{needs}
 use Rattle.console.proofs.playing.translate_file.Statement.{statement}
 use Rattle.console.proofs.playing.translate_file.Tie as tie

@@ -1,6 +1,6 @@
 -- `console::playing::translate_table` delivers a code, or none.
 use Rattle.word.proofs.Each.{words-of}
-use Rattle.console.proofs.Codes.{coded, uncoded}
+use Rattle.console.proofs.Bounds.{coded, uncoded}
 use borrow.Author.Needs.{needs}
 use Rattle.console.proofs.playing.translate_table.Statement.{statement}
 use Rattle.console.proofs.playing.translate_table.Tie as tie

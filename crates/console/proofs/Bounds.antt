@@ -1,13 +1,12 @@
--- The code of a circuit as it is delivered, and the text of its ticks.
+-- What keeps playing inside its buffers.
 use Prim.Native.Nat.{ℕ, _+_, _-_, _*_, _≤_}
 use mathlib.Core.Path.{_≡_, ap}
-use mathlib.Core.List.{List, _++_}
+use mathlib.Core.List.{List}
 use native.Mathlib.Nat.{min-le-left}
 use native.Mathlib.Omega.{arith}
-use lib.ListN.{length, take, drop, length-append, length-take}
+use lib.ListN.{length, take, drop, length-take}
 use lib.Seq.{length-take-le}
 use Rattle.word.specs.Tick.{Words}
-use Rattle.column.specs.Put.{Begins}
 use Rattle.flat.proofs.Decoded.{code-header}
 use Rattle.translator.specs.declared.TranslateAnswer.{TranslateAnswer}
 use Rattle.translator.specs.declared.TranslateAnswer.the-variants.{Numbers}
@@ -24,12 +23,6 @@ coded {table} {code} {a} {code′} t n e w l r f =
 
 pub uncoded : (code : List ℕ) → Coded code 0
 uncoded code = record { within = omega arith; head = λ h. absurd (omega arith) }
-
--- what a buffer begins with lies within it
-pub begins-within : {shown text : List ℕ} {n : ℕ} {text′ : List ℕ} → Begins shown text n text′ → n ≤ length text′
-begins-within {shown} {text} {n} p =
-    let l : length (shown ++ drop n text) ≡ _ = length-append shown (drop n text) in
-    rw (p .put) (omega (arith, p .bytes))
 
 -- what lies within the bytes from `at` to `end` ends there at the latest
 pub part-ends : (buffer : List ℕ) (at end : ℕ) {count : ℕ} → at ≤ end → count ≤ length (take (end - at) (drop at buffer)) → at + count ≤ end
