@@ -8,7 +8,6 @@ pub mod Sayings
 pub mod WholeLines
 pub mod Blocks
 pub mod Reading
-pub mod Filling
 pub mod Exact
 pub mod TickLines
 pub mod Within

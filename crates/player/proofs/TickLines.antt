@@ -16,7 +16,7 @@ use Rattle.column.specs.Line.{lineFeed}
 use Rattle.column.specs.Put.{Put, Begins}
 use Rattle.column.proofs.Stores.{begins-of}
 use Rattle.column.proofs.Writes.{numeral-room}
-use Rattle.player.proofs.Filling.{Filling, filling-room, filling-next, filling-last, filling-end}
+use Rattle.column.proofs.Filling.{Filling, filling-room, filling-next, filling-last, filling-end}
 use Rattle.player.specs.Ticks.{tickLine, ticksText, blockText}
 
 -- the line of a tick without outputs
