@@ -3,6 +3,7 @@ pub mod Texts
 pub mod Parse
 pub mod Scan
 pub mod Stores
+pub mod Filling
 pub mod Put
 pub mod Lines
 pub mod Found

@@ -21,7 +21,7 @@ pub record Putting (file₀ : List ℕ) (end n : ℕ) (file : List ℕ) (at rest
   pub begin : at - length (decimal rest) ≡ end - length (decimal n)
   pub done : sets file (at - length (decimal rest)) (decimal rest) ≡ sets file₀ (end - length (decimal n)) (decimal n)
 
-decimal-longer : (n : ℕ) → 9 < n → length (decimal n) ≡ suc (length (decimal (n / 10)))
+pub decimal-longer : (n : ℕ) → 9 < n → length (decimal n) ≡ suc (length (decimal (n / 10)))
 decimal-longer n h = ap length (decimal-last n h) ∙ length-append (decimal (n / 10)) (digit (n % 10) ∷ []) ∙ add-one (length (decimal (n / 10)))
 
 pub putting-next : (file₀ : List ℕ) (end n : ℕ) (file : List ℕ) (at rest : ℕ) → 9 < rest → Putting file₀ end n file at rest → Putting file₀ end n (set file (at - 1) (digit (rest % 10))) (at - 1) (rest / 10)

@@ -1,12 +1,13 @@
 -- Runs of stores: side by side in either order, and from the front of a buffer.
 use Prim.Native.Nat.{ℕ, suc, _+_, _≤_, _<_}
-use mathlib.Core.Path.{_≡_, refl, ap, _∙_}
+use mathlib.Core.Path.{_≡_, refl, sym, ap, _∙_}
 use mathlib.Core.List.{List, [], _∷_, _++_}
 use native.Mathlib.Nat.{zero-add, add-zero}
 use native.Mathlib.Numerals.{add-one, add-two}
 use native.Mathlib.Omega.{arith}
-use lib.ListN.{length, set, drop}
+use lib.ListN.{length, set, drop, length-append}
 use lib.Seq.{sets, sets-eq, set-comm}
+use Rattle.column.specs.Put.{Put, Begins}
 
 pub set-sets : (l ys : List ℕ) (a v b : ℕ) → a < b → sets (set l a v) b ys ≡ set (sets l b ys) a v
 set-sets l [] a v b h = refl
@@ -28,6 +29,17 @@ sets-back xs ys l a b e = sets-append xs ys l a ∙ rw e (sets-apart xs ys l a b
 
 pub sets-front : (vs l : List ℕ) → length vs ≤ length l → sets l 0 vs ≡ vs ++ drop (length vs) l
 sets-front vs l h = sets-eq vs l 0 (omega arith) ∙ rw zero-add
+
+-- what is put at the front
+pub begins-of : (shown text : List ℕ) (n : ℕ) (text′ : List ℕ) → Put shown text 0 n text′ → Begins shown text n text′
+begins-of shown text n text′ p =
+    let e : n ≡ length shown = omega (arith, p .next-is) in
+    record { bytes = e; put = p .put ∙ sets-front shown text (omega (arith, p .within)) ∙ ap (λ (k : ℕ). shown ++ drop k text) (sym e) }
+
+pub begins-within : {shown text : List ℕ} {n : ℕ} {text′ : List ℕ} → Begins shown text n text′ → n ≤ length text′
+begins-within {shown} {text} {n} p =
+    let l : length (shown ++ drop n text) ≡ length shown + length (drop n text) = length-append shown (drop n text) in
+    rw (p .put) (omega (arith, p .bytes))
 
 pub three-stores : (l : List ℕ) (i a b c a′ b′ c′ : ℕ) → a ≡ a′ → b ≡ b′ → c ≡ c′ → set (set (set l i a) (i + 1) b) (i + 2) c ≡ sets l i (a′ ∷ (b′ ∷ (c′ ∷ [])))
 three-stores l i a b c a′ b′ c′ p q r = rw (p, q, r, add-one i, add-two i)

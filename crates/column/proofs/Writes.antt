@@ -26,15 +26,19 @@ use Rattle.column.proofs.Scan.{drop-at}
 use Rattle.column.proofs.Put.{numeral-small, numeral-large}
 use Rattle.column.proofs.Stores.{sets-append, sets-front}
 
--- every word has room in 12 columns, and every node number in 4
-pub word-room : (w : ℕ) → w < 2 ^ 32 → length (numeral (value w)) ≤ 12
-word-room w h = go (decLt w (2 ^ 31))
+-- a word's numeral is at most ten digits behind a minus
+pub numeral-room : (w : ℕ) → w < 2 ^ 32 → length (numeral (value w)) ≤ 11
+numeral-room w h = go (decLt w (2 ^ 31))
   where
-    go : Dec (w < 2 ^ 31) → length (numeral (value w)) ≤ 12
+    go : Dec (w < 2 ^ 31) → length (numeral (value w)) ≤ 11
     go (yes s) = rw (numeral-small w s) (omega (arith, decimal-length w 10 (omega arith) (omega arith)))
     go (no l) =
         let b : 2 ^ 31 ≤ w = omega arith in
         rw (numeral-large w b h) (omega (arith, decimal-length (4294967295 - w + 1) 10 (omega arith) (omega arith)))
+
+-- every word has room in 12 columns, and every node number in 4
+pub word-room : (w : ℕ) → w < 2 ^ 32 → length (numeral (value w)) ≤ 12
+word-room w h = omega (arith, numeral-room w h)
 
 pub node-room : (i : ℕ) → i < 512 → length (numeral (value i)) ≤ 4
 node-room i h = rw (numeral-small i (omega arith)) (decimal-length i 4 (omega arith) (omega arith))

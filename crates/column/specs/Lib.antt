@@ -4,4 +4,5 @@ pub mod Line
 pub mod File
 pub mod Answers
 pub mod Promises
+pub mod Put
 pub mod Laws

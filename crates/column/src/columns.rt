@@ -121,7 +121,7 @@ fn put_spaces(file: &mut [u8], from: usize, end: usize)
 }
 
 // The text of a word's number in the column of this width, straight into the file; no other byte changes.
-pub(crate) fn put_number(file: &mut [u8], from: usize, width: usize, word: u32)
+pub fn put_number(file: &mut [u8], from: usize, width: usize, word: u32)
     requires { ⌜ (length (numeral (value word)) ≤ width) × (from + width ≤ length (now file)) ⌝ }
     ensures { λ _. ⌜ now (file .exit) ≡ sets (now (file .entry)) from (columnText width (value word)) ⌝ }
 {

@@ -4,6 +4,7 @@ mod reader;
 mod writer;
 
 pub use columns::number as read_number;
+pub use columns::put_number;
 pub use reader::read;
 use refusal::Refusal;
 pub use writer::put_columns;

@@ -19,9 +19,10 @@ use Rattle.column.specs.File.{fileRefusal, tableOf, reading}
 use Rattle.column.proofs.Refusing.{read-counted}
 use Rattle.column.proofs.Storing.{file-right, numbers-length}
 use Rattle.column.proofs.FileText.{lines-few}
+use Rattle.column.specs.Put.{Put}
+use Rattle.column.proofs.Stores.{begins-of, begins-within}
 use Rattle.listing.specs.Print.{refusalText, fileText, Printed}
-use Rattle.listing.specs.Steps.{Put, PrintedTable}
-use Rattle.listing.proofs.Tables.{begins-of}
+use Rattle.listing.specs.Steps.{PrintedTable}
 
 module _ (file table : List ℕ) (a : ReadAnswer) (table′ : List ℕ) (q : outcome (readAnswer a) table′ ≡ reading file table) where
   answered : readAnswer a ≡ reading file table .answer
@@ -71,6 +72,4 @@ module _ (file table : List ℕ) (a : ReadAnswer) (table′ : List ℕ) (q : out
 
 -- what a print counts lies within the buffer
 pub printed-within : (file text : List ℕ) (n : ℕ) (text′ : List ℕ) → Printed file text n text′ → n ≤ length text′
-printed-within file text n text′ p =
-    let l : length (fileText (p .place) file ++ drop n text) ≡ _ = length-append (fileText (p .place) file) (drop n text) in
-    rw (p .begins .put) (omega (arith, p .begins .bytes))
+printed-within file text n text′ p = begins-within (p .begins)

@@ -5,15 +5,17 @@ use mathlib.Core.List.{List, [], _∷_, _++_, map}
 use native.Mathlib.Omega.{arith}
 use native.Mathlib.Nat.{zero-mul, suc-mul}
 use lib.ListN.{length, set, take, drop, length-append, length-drop}
-use lib.Seq.{sets, length-sets, length-take-le, drop-drop}
+use lib.Seq.{sets, length-take-le, drop-drop}
 use Rattle.word.specs.Word.{value}
 use Rattle.word.specs.Tick.{Words}
 use Rattle.word.proofs.Each.{words-take, words-drop}
 use Rattle.column.specs.Line.{lineFeed, columns}
+use Rattle.column.specs.Put.{Put}
 use Rattle.column.proofs.Stores.{sets-append}
+use Rattle.column.proofs.Filling.{Filling, filling-start, filling-room, filling-next, filling-end}
 use Rattle.column.proofs.Writes.{columns-length}
 use Rattle.listing.specs.Print.{line, rows}
-use Rattle.listing.specs.Steps.{Full, Rows, Put}
+use Rattle.listing.specs.Steps.{Full, Rows}
 
 pub line-length : (ws : List ℕ) → Words ws → length (line ws) ≡ 12 * length ws + 1
 unfolding line
@@ -42,12 +44,10 @@ rows-length w (suc k) ws v f =
 pub record Laying (numbers : List ℕ) (w count : ℕ) (text₀ : List ℕ) (from : ℕ) (text : List ℕ) (left first at : ℕ) : Type 0 where
   pub inside : first ≤ length numbers
   pub full : Full w left (drop first numbers)
-  pub long : length text ≡ length text₀
-  pub ends : at + length (rows w left (drop first numbers)) ≡ from + length (rows w count numbers)
-  pub done : sets text at (rows w left (drop first numbers)) ≡ sets text₀ from (rows w count numbers)
+  pub fill : Filling (rows w count numbers) text₀ from (rows w left (drop first numbers)) text at
 
 pub laying-starts : (numbers : List ℕ) (w count : ℕ) (text : List ℕ) (from : ℕ) → Rows numbers w count text from → Laying numbers w count text from text count 0 from
-laying-starts numbers w count text from r = record { inside = omega arith; full = r .full; long = refl; ends = refl; done = refl }
+laying-starts numbers w count text from r = record { inside = omega arith; full = r .full; fill = filling-start (rows w count numbers) text from }
 
 module _ (numbers : List ℕ) (w count : ℕ) (text₀ : List ℕ) (from : ℕ) (text : List ℕ) (words : Words numbers) where
   -- the next line lies within the numbers and the text
@@ -55,25 +55,20 @@ module _ (numbers : List ℕ) (w count : ℕ) (text₀ : List ℕ) (from : ℕ) 
       (first + w ≤ length numbers) × (at + (12 * length (take w (drop first numbers)) + 1) ≤ length text)
   laying-room zero first at h r p = absurd (omega arith)
   laying-room (suc k) first at h r p =
-      let n : length (line (take w (drop first numbers)) ++ rows w k (drop w (drop first numbers))) ≡ length (line (take w (drop first numbers))) + length (rows w k (drop w (drop first numbers))) = length-append (line (take w (drop first numbers))) (rows w k (drop w (drop first numbers))) in
-      let l = line-length (take w (drop first numbers)) (words-take w (drop first numbers) (words-drop first numbers words)) in
-      (omega (arith, p .full .0, p .inside, length-drop first numbers), omega (arith, p .ends, p .long))
+      let l = line-length (take w (drop first numbers)) (words-take w (drop first numbers) (words-drop first numbers words)) in (
+        omega (arith, p .full .0, p .inside, length-drop first numbers),
+        omega (arith, filling-room (p .fill) (line (take w (drop first numbers))) (rows w k (drop w (drop first numbers))) refl r),
+      )
 
   laid : (k first at next : ℕ) (text′ : List ℕ) → Put (line (take w (drop first numbers))) text at next text′ →
       Laying numbers w count text₀ from text (suc k) first at → Laying numbers w count text₀ from text′ k (first + w) next
   laid k first at next text′ q p =
       let ws : List ℕ = drop first numbers in
-      let n : length (line (take w ws) ++ rows w k (drop w ws)) ≡ length (line (take w ws)) + length (rows w k (drop w ws)) = length-append (line (take w ws)) (rows w k (drop w ws)) in
       let d : drop w ws ≡ drop (first + w) numbers = drop-drop w first numbers in
-      let e : next + length (rows w k (drop w ws)) ≡ from + length (rows w count numbers) = omega (arith, q .next-is, p .ends) in
-      let s : sets text′ next (rows w k (drop w ws)) ≡ sets text₀ from (rows w count numbers) =
-      rw (q .put, q .next-is) (sym (sets-append (line (take w ws)) (rows w k (drop w ws)) text at) ∙ p .done) in
       record {
         inside = omega (arith, p .full .0, p .inside, length-drop first numbers);
         full = rw d at (p .full .1);
-        long = ap length (q .put) ∙ length-sets text at (line (take w ws)) ∙ p .long;
-        ends = rw d at e;
-        done = rw d at s;
+        fill = rw d at (filling-next (p .fill) (line (take w ws)) (rows w k (drop w ws)) refl q);
       }
 
   pub laying-next : (left first at next : ℕ) (text′ : List ℕ) → 0 < left → Put (line (take w (drop first numbers))) text at next text′ →
@@ -83,5 +78,5 @@ module _ (numbers : List ℕ) (w count : ℕ) (text₀ : List ℕ) (from : ℕ) 
       laid (left - 1) first at next text′ q (subst (λ (k : ℕ). Laying numbers w count text₀ from text k first at) e p)
 
   pub laying-ends : (left first at : ℕ) → left ≤ 0 → from + length (rows w count numbers) ≤ length text₀ → Laying numbers w count text₀ from text left first at → Put (rows w count numbers) text₀ from at text
-  laying-ends zero first at h r p = record { next-is = omega (arith, p .ends); within = omega (arith, p .ends); put = p .done }
+  laying-ends zero first at h r p = filling-end r (p .fill)
   laying-ends (suc k) first at h r p = absurd (omega arith)

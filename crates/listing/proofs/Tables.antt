@@ -1,14 +1,15 @@
 -- The print of a table, by what the translator answered.
 use Prim.Native.Nat.{ℕ, _^_, _≤_, _<_}
-use mathlib.Core.Path.{_≡_, sym, ap, _∙_}
-use mathlib.Core.List.{List, _++_}
+use mathlib.Core.Path.{_≡_, sym, ap}
+use mathlib.Core.List.{List}
 use native.Mathlib.Omega.{arith}
-use lib.ListN.{length, getD, take, drop}
+use lib.ListN.{length, getD, take}
 use Rattle.word.specs.Tick.{zeros}
 use Rattle.word.proofs.Each.{words-of}
 use Rattle.refusal.specs.declared.Refusal.{Refusal}
 use Rattle.refusal.specs.Refusals.{numberOf, placeOf}
-use Rattle.column.proofs.Stores.{sets-front}
+use Rattle.column.specs.Put.{Put}
+use Rattle.column.proofs.Stores.{begins-of}
 use Rattle.flat.proofs.Decoded.{code-header}
 use Rattle.translator.specs.declared.TranslateAnswer.{TranslateAnswer}
 use Rattle.translator.specs.declared.TranslateAnswer.the-variants.{Numbers, Refused}
@@ -16,13 +17,8 @@ use Rattle.refusal.specs.Outcome.{outcome}
 use Rattle.translator.specs.Translate.{answerOf, translatedTable, Translates}
 use Rattle.translator.specs.Laws.{Delivered}
 use Rattle.translator.proofs.Delivered.{is-delivered, delivered-passes}
-use Rattle.listing.specs.Print.{codeText, refusalText, mostNumbers, outcomeText, tableText, Begins}
-use Rattle.listing.specs.Steps.{Put, Listable, PrintedTable}
-
-pub begins-of : (shown text : List ℕ) (n : ℕ) (text′ : List ℕ) → Put shown text 0 n text′ → Begins shown text n text′
-begins-of shown text n text′ p =
-    let e : n ≡ length shown = omega (arith, p .next-is) in
-    record { bytes = e; put = p .put ∙ sets-front shown text (omega (arith, p .within)) ∙ ap (λ (k : ℕ). shown ++ drop k text) (sym e) }
+use Rattle.listing.specs.Print.{codeText, refusalText, mostNumbers, outcomeText, tableText}
+use Rattle.listing.specs.Steps.{Listable, PrintedTable}
 
 module _ {table code : List ℕ} {a : TranslateAnswer} {code′ : List ℕ} (t : Translates table code a code′) where
   shown : outcomeText (outcome (answerOf a) code′) ≡ outcomeText (translatedTable (t .place) table code)

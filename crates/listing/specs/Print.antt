@@ -4,13 +4,14 @@ use mathlib.Core.Path.{_≡_}
 use mathlib.Core.List.{List, [], _∷_, _++_, map}
 use mathlib.Core.Option.{Option, none, some}
 use lib.IntN.{ℤ}
-use lib.ListN.{length, take, drop}
+use lib.ListN.{take, drop}
 use Rattle.word.specs.Word.{value, low}
 use Rattle.word.specs.Tick.{zeros, headOr}
 use Rattle.refusal.specs.Answer.{Answer}
 use Rattle.refusal.specs.Answer.Answer.{counts, refused}
 use Rattle.column.specs.Line.{lineFeed, columns, lines}
 use Rattle.column.specs.File.{fileRefusal, tableOf}
+use Rattle.column.specs.Put.{Begins}
 use Rattle.arity.specs.Checked.{LoosePlace}
 use Rattle.flat.specs.Flat.{width}
 use Rattle.flat.specs.Code.{header, instructionCount, outputCount, resultsAt}
@@ -60,11 +61,6 @@ unlessRefused (some a) text = answerText a []
 -- "A program reads a column file .. and prints the code"
 unfoldable pub fileText : ℕ → List ℕ → List ℕ
 fileText p file = unlessRefused (fileRefusal file) (tableText p (tableOf (lines file)))
-
--- a buffer begins with a text of n bytes, and is otherwise as it was
-pub record Begins (shown text : List ℕ) (n : ℕ) (text′ : List ℕ) : Type 0 where
-  pub bytes : n ≡ length shown
-  pub put : text′ ≡ shown ++ drop n text
 
 -- the buffer holds the print of a file, with some loose node as the place of refusal 9
 pub record Printed (file text : List ℕ) (n : ℕ) (text′ : List ℕ) : Type 0 where

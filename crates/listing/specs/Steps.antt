@@ -1,12 +1,11 @@
 -- What the functions inside a print ask of each other and promise; the contract of the print cites none of this.
 use Prim.Native.Nat.{ℕ, zero, suc, _+_, _≤_}
-use mathlib.Core.Path.{_≡_}
 use mathlib.Core.List.{List}
 use lib.ListN.{length, drop}
-use lib.Seq.{sets}
+use Rattle.column.specs.Put.{Begins}
 use Rattle.arity.specs.Checked.{LoosePlace}
 use Rattle.flat.specs.Steps.{Header}
-use Rattle.listing.specs.Print.{rows, tableText, Begins}
+use Rattle.listing.specs.Print.{rows, tableText}
 
 -- there are k times w numbers
 abbrev pub Full : (w k : ℕ) → List ℕ → Type 0
@@ -17,12 +16,6 @@ Full w (suc k) ws = (w ≤ length ws) × Full w k (drop w ws)
 pub record Rows (numbers : List ℕ) (w k : ℕ) (text : List ℕ) (from : ℕ) : Type 0 where
   pub full : Full w k numbers
   pub room : from + length (rows w k numbers) ≤ length text
-
--- what is shown stands at `from`, and the next line begins behind it
-pub record Put (shown text : List ℕ) (from next : ℕ) (text′ : List ℕ) : Type 0 where
-  pub next-is : next ≡ from + length shown
-  pub within : next ≤ length text
-  pub put : text′ ≡ sets text from shown
 
 -- a code that has its counted length, and room for all its lines
 pub record Listable (code text : List ℕ) : Type 0 where

@@ -8,7 +8,8 @@ ghost use Prim.Native.Nat.{_+_, _*_, _≤_};
 ghost use lib.ListN.{length};
 ghost use Rattle.refusal.specs.Refusals.{numberOf, placeOf};
 ghost use Rattle.listing.specs.Print.{line, rows, codeText, refusalText, Printed};
-ghost use Rattle.listing.specs.Steps.{Rows, Put, Listable, PrintedTable};
+ghost use Rattle.column.specs.Put.{Put};
+ghost use Rattle.listing.specs.Steps.{Rows, Listable, PrintedTable};
 
 // Numbers in 12 columns each and a line feed, from `from` on; gives where the next line begins.
 fn put_line(numbers: &[u32], text: &mut [u8], from: usize) -> usize
@@ -51,7 +52,7 @@ fn put_code(code: &[u32], text: &mut [u8]) -> usize
 }
 
 // Number and place on one line.
-fn put_refusal(refusal: Refusal, text: &mut [u8]) -> usize
+pub fn put_refusal(refusal: Refusal, text: &mut [u8]) -> usize
     requires { ⌜ 25 ≤ length (now text) ⌝ }
     ensures { λ r. ⌜ Put (refusalText (numberOf refusal) (placeOf refusal)) (now (text .entry)) 0 r (now (text .exit)) ⌝ }
 {

@@ -12,4 +12,7 @@ pub mod Splits
 pub mod Joined
 pub mod Bounds
 pub mod Examples
+pub mod Exact
+pub mod TickLines
+pub mod Within
 mod Borders

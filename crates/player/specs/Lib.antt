@@ -1,3 +1,4 @@
 pub mod Samples
 pub mod Promises
 pub mod Laws
+pub mod Ticks

@@ -1,7 +1,10 @@
-// The player's text: the samples that it reads.
+// A circuit on samples that stand in text: the lines of samples read, the lines of ticks put.
+mod numerals;
 mod samples;
+mod ticks;
 
 pub use samples::Block;
 pub use samples::Stop;
 pub use samples::circuit_bytes;
 pub use samples::read_block;
+pub use ticks::put_ticks;

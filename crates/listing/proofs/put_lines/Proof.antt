@@ -62,7 +62,7 @@ loop-again c =
     laying-next _ (c .before .before .before .before .before .before .before .before .before .args .width) (c .before .before .before .before .before .before .before .before .before .args .count) _ (c .before .before .before .before .before .before .before .before .before .args .from) _ (words-of (c .before .before .before .before .before .before .before .before .before .args .numbers .now) (λ k. c .before .before .before .before .before .before .before .before .shared-slice-known .given k .fits)) (c .before .before .before .before .before .before .loop .left) (c .before .before .before .before .before .before .loop .first) (c .before .before .before .before .before .before .loop .at) _ _ (c .before .before .before .before .before .loop-test .taken) (rw n at (c .before .before .put-line .ensures)) (c .before .before .before .before .before .before .loop .inv)
 
 same-length : tie.Need-same-length Inv-loop μ-loop
-same-length c = c .before .loop .inv .long
+same-length c = c .before .loop .inv .fill .long
 
 returns : tie.Need-returns Inv-loop μ-loop
 returns c =
