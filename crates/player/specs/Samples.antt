@@ -93,9 +93,13 @@ controlWord = 99 ∷ 111 ∷ 110 ∷ 116 ∷ 114 ∷ 111 ∷ 108 ∷ []
 abbrev pub wordsSaid : ℕ → List (List ℕ) → Said
 wordsSaid n ws = pick (same (headOr [] ws) controlWord) (controlSaid (drop 1 ws)) (tickSaid n ws)
 
--- what a line says, without its line feed
+-- a line has at most so many bytes, with its line feed
+abbrev pub longestLine : ℕ
+longestLine = 65536
+
+-- what a line says, without its line feed; a longer one is malformed
 unfoldable pub said : ℕ → List ℕ → Said
-said n text = wordsSaid n (words text)
+said n text = pick (ltb (length text) longestLine) (wordsSaid n (words text)) malformed
 
 -- a line without its line feed, and whether it has one
 abbrev pub textOf : List ℕ → List ℕ
