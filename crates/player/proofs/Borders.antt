@@ -4,6 +4,7 @@ use mathlib.Core.Path.{_≡_, sym, ap, _∙_}
 use mathlib.Core.Bool.{false}
 use mathlib.Core.List.{List, [], _∷_, _++_, flatten}
 use mathlib.Core.Logic.{_⊎_, inl, inr, ⊎-elim}
+use mathlib.Core.Option.{none}
 use native.Mathlib.Omega.{arith}
 use borrow.Author.Tests.{lt-ltb}
 use lib.ListN.{length, take, drop}
@@ -11,16 +12,24 @@ use Rattle.word.specs.Word.{low}
 use Rattle.word.specs.Tick.{tick, zeros}
 use Rattle.column.specs.Number.{digits, decimal, numeral, column, candidate, numberIn}
 use Rattle.column.specs.Line.{lines}
+use Rattle.column.specs.File.{fileRefusal, reading}
 use Rattle.player.specs.declared.samples.Block.{Block}
 use Rattle.player.specs.declared.samples.Stop.the-variants.{Full, Rest, Control}
 use Rattle.player.specs.Samples.{circuitPart, samplesPart, words, wordsSaid, longestLine, said, whole, starting, blockRead, reads, history}
 use Rattle.player.proofs.Parts.{circuit-of-first, input-parts}
+use Rattle.player.proofs.Decided.{circuit-decided, circuit-complete}
 use Rattle.player.proofs.Joined.{blocks-join, last-line, long-line}
 use Rattle.player.proofs.Bounds.{block-bounded, read-bounded, inputs-first}
 
 -- the bytes that decide on a column file
 first-bytes : (input : List ℕ) → circuitPart (take 20993 input) ≡ take 20993 (circuitPart input)
 first-bytes input = circuit-of-first 20993 input
+
+enough-read : (input table : List ℕ) → reading (circuitPart (take 20993 input)) table ≡ reading (circuitPart input) table
+enough-read input table = circuit-decided 20993 input table (omega arith)
+
+enough-complete : (input : List ℕ) → fileRefusal (circuitPart (take 20993 input)) ≡ none → circuitPart (take 20993 input) ≡ circuitPart input
+enough-complete input e = circuit-complete 20993 input (omega arith) e
 
 -- an empty line, or none
 samples-after : (input : List ℕ) → length (circuitPart input) < length input → circuitPart input ++ (10 ∷ samplesPart input) ≡ input

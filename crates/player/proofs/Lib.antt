@@ -1,4 +1,5 @@
 pub mod Parts
+pub mod Decided
 pub mod UpTo
 pub mod Words
 pub mod Same

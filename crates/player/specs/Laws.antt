@@ -4,9 +4,11 @@ use mathlib.Core.Path.{_≡_}
 use mathlib.Core.Bool.{false}
 use mathlib.Core.List.{List, [], _∷_, _++_, map, flatten}
 use mathlib.Core.Logic.{_⊎_}
+use mathlib.Core.Option.{none}
 use lib.ListN.{length, take, drop, set}
 use Rattle.word.specs.Tick.{Tick, tick}
-use Rattle.column.specs.Line.{lineFeed, lines}
+use Rattle.column.specs.Line.{enoughBytes, lineFeed, lines}
+use Rattle.column.specs.File.{fileRefusal, reading}
 use Rattle.player.specs.declared.samples.Stop.{Stop}
 use Rattle.player.specs.declared.samples.Stop.the-variants.{Full, Rest, Control, Malformed}
 use Rattle.player.specs.declared.samples.Block.{Block}
@@ -15,6 +17,14 @@ use Rattle.player.specs.Samples.{circuitPart, samplesPart, longestLine, 
 -- the circuit of the first k bytes is the first k bytes of the circuit
 abbrev pub CircuitOfFirst : Type 0
 CircuitOfFirst = (k : ℕ) (input : List ℕ) → circuitPart (take k input) ≡ take k (circuitPart input)
+
+-- the first k bytes of an input decide how its circuit is read, if k is enough for a column file
+abbrev pub CircuitDecided : Type 0
+CircuitDecided = (k : ℕ) (input table : List ℕ) → enoughBytes ≤ k → reading (circuitPart (take k input)) table ≡ reading (circuitPart input) table
+
+-- and a circuit that is not refused is found whole in them
+abbrev pub CircuitComplete : Type 0
+CircuitComplete = (k : ℕ) (input : List ℕ) → enoughBytes ≤ k → fileRefusal (circuitPart (take k input)) ≡ none → circuitPart (take k input) ≡ circuitPart input
 
 -- circuit and samples, with the line feed of the empty line between, are the input; or there is no empty line
 abbrev pub InputParts : Type 0
