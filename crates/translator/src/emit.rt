@@ -96,17 +96,19 @@ pub fn emit_node(
     if kind <= 6 {
         return emit_leaf(table, shape, node, p, code);
     }
+    // q and r are reused, q on both ways: each level of a circuit has a frame, which is then a third smaller
+    let mut q: Progress;
     if kind == 12 {
         let body = index(first_of(table, node));
-        let o = put_skip(table, shape, node, p, code);
-        let q = emit_node(table, shape, body, o, code);
+        q = put_skip(table, shape, node, p, code);
+        q = emit_node(table, shape, body, q, code);
         return put_holding(table, shape, node, q, code);
     }
     let first = first_child(table, node);
     let second = second_child(table, node);
-    let o = put_opening(table, shape, node, p, code);
-    let q = emit_node(table, shape, first, o, code);
-    let m = put_middle(table, shape, node, p, q, code);
-    let r = emit_node(table, shape, second, m, code);
+    q = put_opening(table, shape, node, p, code);
+    q = emit_node(table, shape, first, q, code);
+    let mut r = put_middle(table, shape, node, p, q, code);
+    r = emit_node(table, shape, second, r, code);
     put_closing(table, shape, node, q, r, code)
 }

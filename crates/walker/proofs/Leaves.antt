@@ -131,12 +131,12 @@ module _ {table shape : List ℕ} {i : ℕ} (ready : Ready table shape) (d : Dem
       rest (x ∷ l) = refl
 
   module _ {controls xs cs os : List ℕ} where
-    pub rest-ticked : demand (getD xs 0 0) ≡ false → Holding table i cs os → Ticked table controls i xs cs os cs
+    pub rest-ticked : {cs₁ : List ℕ} → demand (getD xs 0 0) ≡ false → cs₁ ≡ cs → Holding table i cs₁ os → Ticked table controls i xs cs os cs₁
     unfolding step
-    rest-ticked n h =
+    rest-ticked n ec h =
         record {
           is =
-              ap (λ (l : Beam). stepped l cs) (h .is ∙ ap (λ (m : ℕ). part (base table i) m cs) outs-same)
+              ap₂ stepped (h .is ∙ ap₂ (λ (m : ℕ) (l : List ℕ). part (base table i) m l) outs-same ec) ec
               ∙ sym (ap (λ (t : Tree). step (base table) t (tick (take (ins (tree table i)) xs) controls) cs) demand-is ∙ rw (clock-is xs, n));
         }
 

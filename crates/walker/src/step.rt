@@ -158,7 +158,6 @@ fn demand_step(
         let body = index(first_of(table, node));
         let y = circuit_step(table, shape, body, controls, after(ins, 1), cells);
         hold(table, shape, node, y, cells);
-        return held(table, shape, node, cells);
     }
     held(table, shape, node, cells)
 }

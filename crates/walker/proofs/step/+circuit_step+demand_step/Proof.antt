@@ -1,11 +1,14 @@
 -- `walker::step::circuit_step` and `walker::step::demand_step` meet their contracts. The node number falls: a step of an ondemand is called for the same
 -- node, so the measure is twice the node, and one more for the circuit step. What a node is made of is left to functions outside the cycle.
 use Prim.Native.Nat.{ℕ, _+_, _*_, _≤_, _<_}
-use mathlib.Core.Path.{refl, sym, subst, _∙_}
+use mathlib.Core.Path.{_≡_, sym, ap, subst, _∙_}
+use mathlib.Core.List.{List}
+use mathlib.Core.Logic.{⊎-elim}
 use native.Mathlib.Omega.{arith}
+use lib.ListN.{length}
 use borrow.Fn.Kinds.{In}
 use borrow.Fn.PlainCycle.{Measures, is, falls, and}
-use Rattle.walker.specs.Ready.{Joins}
+use Rattle.walker.specs.Ready.{Joins, Holding, Ticked}
 use Rattle.walker.proofs.Joining.{join-ticked}
 use Rattle.walker.proofs.Wires.{joins, first-below, second-below, roomy}
 use Rattle.walker.proofs.Leaves.{body-in, rest-ticked, demand-ticked}
@@ -173,24 +176,27 @@ module _ (t : ℕ) where
   demand-hold-requires : demand-lts.Need-hold-requires (demand-calls t) (demand-at t) demand.Post
   demand-hold-requires c κs = (c .before .before .before .before .before .before .before .before .before .before .before .before .before .pre .1 .0, (c .before .before .before .before .before .before .before .before .before .before .before .before .before .pre .1 .1 .0, roomy (c .before .before .before .before .before .before .before .before .before .before .before .before .before .args .table .now) (c .before .before .before .before .before .before .before .before .before .before .before .before .before .pre .1 .1 .1) (c .before .before .before .circuit-step .kept .1 .1 .1 .1 .1 .0)))
 
+  -- after the demand's test and what it guards: as many cells as before
+  demand-length : (c : demand-lts.Joined1 (demand-calls t) (demand-at t) demand.Post) → length (c .if1 .cells) ≡ length (c .before .before .before .before .before .args .cells .now)
+  demand-length c = ⊎-elim (λ w. ap length (w .12) ∙ w .9 .kept .1 .1 .1 .1 .0 ∙ w .5 .kept .1 .1 .1 .1 .1 .0) (λ w. ap length (w .1)) (c .if1 .came)
+
+  -- and an array with what they hold has the outputs of the tick
+  demand-outputs : (c : demand-lts.Joined1 (demand-calls t) (demand-at t) demand.Post) {os : List ℕ} → Holding (c .before .before .before .before .before .args .table .now) (c .before .before .before .before .before .args .node) (c .if1 .cells) os
+      → Ticked (c .before .before .before .before .before .args .table .now) (c .before .before .before .before .before .args .controls .now) (c .before .before .before .before .before .args .node) (c .before .before .before .before .before .args .t5) (c .before .before .before .before .before .args .cells .now) os (c .if1 .cells)
+  demand-outputs c h =
+      ⊎-elim
+      (λ w. demand-ticked (c .before .before .before .before .before .pre .1 .0) (c .before .before .before .before .before .pre .1 .1 .0) (sym (c .before .demand .ensures) ∙ w .0 .taken) (w .2 .ensures ∙ w .1 .ensures) (w .3 .ensures) (w .5 .ensures) (w .12 ∙ w .9 .ensures) h)
+      (λ w. rest-ticked (c .before .before .before .before .before .pre .1 .0) (c .before .before .before .before .before .pre .1 .1 .0) (sym (c .before .demand .ensures) ∙ w .0 .left) (w .1) h)
+      (c .if1 .came)
+
   demand-held-requires : demand-lts.Need-held-requires (demand-calls t) (demand-at t) demand.Post
-  demand-held-requires c κs = (c .before .before .before .before .before .before .before .before .before .before .before .before .before .before .before .before .before .pre .1 .0, (c .before .before .before .before .before .before .before .before .before .before .before .before .before .before .before .before .before .pre .1 .1 .0, roomy (c .before .before .before .before .before .before .before .before .before .before .before .before .before .before .before .before .before .args .table .now) (c .before .before .before .before .before .before .before .before .before .before .before .before .before .before .before .before .before .pre .1 .1 .1) (c .before .before .before .hold .kept .1 .1 .1 .1 .0 ∙ c .before .before .before .before .before .before .before .circuit-step .kept .1 .1 .1 .1 .1 .0)))
+  demand-held-requires c κs = (c .before .before .before .before .before .before .pre .1 .0, (c .before .before .before .before .before .before .pre .1 .1 .0, roomy (c .before .before .before .before .before .before .args .table .now) (c .before .before .before .before .before .before .pre .1 .1 .1) (demand-length (c .before))))
 
   demand-same-length : demand-lts.Need-same-length (demand-calls t) (demand-at t) demand.Post
-  demand-same-length c = c .before .before .before .before .hold .kept .1 .1 .1 .1 .0 ∙ c .before .before .before .before .before .before .before .before .circuit-step .kept .1 .1 .1 .1 .1 .0
+  demand-same-length c = demand-length (c .before .before)
 
   demand-returns : demand-lts.Need-returns (demand-calls t) (demand-at t) demand.Post
-  demand-returns c =
-      demand-ticked (c .before .before .before .before .before .before .before .before .before .before .before .before .before .before .before .before .before .before .pre .1 .0) (c .before .before .before .before .before .before .before .before .before .before .before .before .before .before .before .before .before .before .pre .1 .1 .0) (sym (c .before .before .before .before .before .before .before .before .before .before .before .before .before .before .demand .ensures) ∙ c .before .before .before .before .before .before .before .before .before .before .before .before .before .if1 .taken) (c .before .before .before .before .before .before .before .before .before .before .before .index .ensures ∙ c .before .before .before .before .before .before .before .before .before .before .before .before .first-of .ensures) (c .before .before .before .before .before .before .before .before .before .before .after .ensures) (c .before .before .before .before .before .before .before .before .circuit-step .ensures) (c .before .before .before .before .hold .ensures) (c .held .ensures)
-
-  demand-held-requires-2 : demand-lts.Need-held-requires-2 (demand-calls t) (demand-at t) demand.Post
-  demand-held-requires-2 c κs = (c .before .before .before .before .before .before .pre .1 .0, (c .before .before .before .before .before .before .pre .1 .1 .0, c .before .before .before .before .before .before .pre .1 .1 .1))
-
-  demand-same-length-2 : demand-lts.Need-same-length-2 (demand-calls t) (demand-at t) demand.Post
-  demand-same-length-2 c = refl
-
-  demand-returns-2 : demand-lts.Need-returns-2 (demand-calls t) (demand-at t) demand.Post
-  demand-returns-2 c = rest-ticked (c .before .before .before .before .before .before .before .pre .1 .0) (c .before .before .before .before .before .before .before .pre .1 .1 .0) (sym (c .before .before .before .demand .ensures) ∙ c .before .before .if1 .left) (c .held2 .ensures)
+  demand-returns c = demand-outputs (c .before .before) (c .held .ensures)
 
 pub +circuit-step+demand-step-spec : {M : Type 1} → statement M
 +circuit-step+demand-step-spec =
@@ -199,5 +205,4 @@ pub +circuit-step+demand-step-spec : {M : Type 1} → statement M
     (circuit-demand-step-requires t) (circuit-same-length-2 t) (circuit-returns-2 t) (circuit-first-child-requires t) (circuit-second-child-requires t) (circuit-first-input-requires t)
     (circuit-circuit-step-requires t) (circuit-second-input-requires t) (circuit-circuit-step-requires-2 t) (circuit-finish-requires t) (circuit-same-length-3 t) (circuit-returns-3 t))
     (λ t. demand-lts.spec (demand-calls t) (demand-at t) demand.Post (demand-array-read-demand t) (demand-demand-requires t) (demand-first-of-requires t) (demand-index-requires t)
-    (demand-after-requires t) (demand-circuit-step-requires t) (demand-hold-requires t) (demand-held-requires t) (demand-same-length t) (demand-returns t) (demand-held-requires-2 t)
-    (demand-same-length-2 t) (demand-returns-2 t))
+    (demand-after-requires t) (demand-circuit-step-requires t) (demand-hold-requires t) (demand-held-requires t) (demand-same-length t) (demand-returns t))
