@@ -28,6 +28,7 @@ fn command(name: &str, rest: &str) -> Command {
         "write" => Command::Write(size(0)),
         "translate" => Command::Translate(size(0)),
         "print" => Command::Print,
+        "play" => Command::Play,
         "load" => Command::Load(all[0], size(1)),
         "walk" => Command::Walk(all[0], size(1), size(2)),
         "run" => Command::Run(all[0], size(1), size(2)),

@@ -4,24 +4,11 @@ use crate::arity::{check, Checked};
 use crate::column::{parse, parse_number};
 use crate::engine::Refusal;
 use crate::meaning::Meaning;
-use crate::translate::code;
+use crate::scene::row;
+use crate::script::{expected, Command};
 
 /// "a line too long for the buffer of 65,536 bytes", its line feed included
 const BUFFER: usize = 65536;
-
-/// "each number in 12 columns"
-fn columns(numbers: &[u32]) -> String {
-    let text: String = numbers
-        .iter()
-        .map(|&n| format!("{:12}", n as i32))
-        .collect();
-    text + "\n"
-}
-
-/// "number and place on one line"
-fn refusal(refusal: Refusal) -> String {
-    columns(&[refusal.number, refusal.place as u32])
-}
 
 /// The circuit of a file: lines, table, 10, 11. A refusal 9 is to have one place only.
 fn circuit(file: &[u8]) -> Result<(Vec<u32>, Checked), Refusal> {
@@ -36,19 +23,9 @@ fn circuit(file: &[u8]) -> Result<(Vec<u32>, Checked), Refusal> {
     Ok((table, checked))
 }
 
-/// "the header on a line, each instruction on a line, each output on a line"
+/// "prints the code"; "On refusal it prints number and place".
 pub fn translated(file: &[u8]) -> String {
-    let (table, checked) = match circuit(file) {
-        Ok(circuit) => circuit,
-        Err(refused) => return refusal(refused),
-    };
-    let code = code(&table, &checked);
-    let (header, rest) = code.split_at(4);
-    let (instructions, outputs) = rest.split_at(5 * header[2] as usize);
-    let mut text = columns(header);
-    instructions.chunks(5).for_each(|i| text += &columns(i));
-    outputs.chunks(1).for_each(|o| text += &columns(o));
-    text
+    expected(&[Command::File(file.to_vec()), Command::Print])
 }
 
 /// What stands before the first empty line, and what stands after it.
@@ -102,7 +79,7 @@ pub fn played(input: &[u8]) -> String {
     let (file, samples) = parts(input);
     let (table, checked) = match circuit(file) {
         Ok(circuit) => circuit,
-        Err(refused) => return refusal(refused),
+        Err(refusal) => return row(&[refusal.number, refusal.place as u32]),
     };
     let mut meaning = Meaning::of_checked(&table, &checked);
     let mut controls = [0; 16];

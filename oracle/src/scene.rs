@@ -5,6 +5,7 @@ use crate::arity;
 use crate::column;
 use crate::engine::{Counts, Engine, Refusal};
 use crate::entries::{Block, Past};
+use crate::programs::played;
 use crate::script::{list, Command};
 use crate::translate;
 
@@ -178,6 +179,7 @@ impl Scene {
             Command::Write(length) => self.write(length, actor),
             Command::Translate(length) => self.translate(length, actor),
             Command::Print => self.print(actor),
+            Command::Play => played(&self.file),
             Command::Load(named, lent) => {
                 let [walks, runs] = &mut self.memories;
                 let walked = actor.load(0, named, &mut walks[..lent]);
@@ -275,7 +277,8 @@ fn block<'a>(ticks: u32, inputs: &'a [u32], controls: &'a [u32]) -> Block<'a> {
     }
 }
 
-fn row(numbers: &[u32]) -> String {
+/// "each number in 12 columns", on a line
+pub fn row(numbers: &[u32]) -> String {
     let columns: Vec<String> = numbers
         .iter()
         .map(|&number| format!("{:12}", number as i32))

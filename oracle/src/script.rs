@@ -20,6 +20,7 @@ pub enum Command {
     Write(usize),
     Translate(usize),
     Print,
+    Play,
     /// The named count of cells, the count of lent ones.
     Load(u32, usize),
     /// Ticks, lent cells, length of the output buffer.
@@ -88,6 +89,7 @@ fn render_one(command: &Command) -> Vec<u8> {
         Command::Write(length) => format!("write {length}\n"),
         Command::Translate(length) => format!("translate {length}\n"),
         Command::Print => "print\n".to_string(),
+        Command::Play => "play\n".to_string(),
         Command::Load(named, lent) => format!("load {} {lent}\n", *named as i32),
         Command::Walk(ticks, cells, out) => format!("walk {} {cells} {out}\n", *ticks as i32),
         Command::Run(ticks, cells, out) => format!("run {} {cells} {out}\n", *ticks as i32),

@@ -2,7 +2,8 @@
 
 use oracle::generate::generate;
 use oracle::parse::parse;
-use oracle::script::{expected, is_open, render, Command};
+use oracle::programs::{played, translated};
+use oracle::script::{expected, is_open, render};
 use std::fs::{read, read_dir};
 
 fn path(program: &str, file: &str) -> String {
@@ -39,25 +40,47 @@ fn vectors() {
     assert!(expected(&commands).into_bytes() == stored("vectors", "stdout"));
 }
 
-/// Of each of the files a line with its name, then its print.
 #[test]
-fn translate_runs() {
-    let stdout = String::from_utf8(stored("translate_runs", "stdout")).unwrap();
-    let names: Vec<&str> = stdout
-        .lines()
-        .filter(|line| !line.starts_with(' '))
+fn format() {
+    holds("format");
+}
+
+/// The runs of a program on the files of a folder: of each a line with its name, then what is printed.
+fn runs(program: &str, printed: fn(&[u8]) -> String) {
+    let stdout = String::from_utf8(stored(program, "stdout")).unwrap();
+    let folder = read_dir(path(program, "data")).unwrap();
+    let files: Vec<String> = folder
+        .map(|file| file.unwrap().file_name().into_string().unwrap())
         .collect();
-    let mut printed = String::new();
-    for name in &names {
-        let file = stored("translate_runs", &format!("data/{name}"));
-        printed += &format!(
-            "{name}\n{}",
-            expected(&[Command::File(file), Command::Print])
+    // a file that is there again as bytes at hand
+    let named = |line: &str| {
+        files
+            .iter()
+            .find(|&file| file == line.strip_suffix(" held").unwrap_or(line))
+    };
+    let titles: Vec<(&str, &String)> = stdout
+        .lines()
+        .filter_map(|line| Some((line, named(line)?)))
+        .collect();
+    let mut expected = String::new();
+    for (title, file) in &titles {
+        expected += &format!(
+            "{title}\n{}",
+            printed(&stored(program, &format!("data/{file}")))
         );
     }
-    assert_eq!(printed, stdout);
-    assert_eq!(
-        names.len(),
-        read_dir(path("translate_runs", "data")).unwrap().count()
-    );
+    assert!(expected == stdout);
+    assert!(files
+        .iter()
+        .all(|file| titles.iter().any(|(_, named)| *named == file)));
+}
+
+#[test]
+fn translate_runs() {
+    runs("translate_runs", translated);
+}
+
+#[test]
+fn play_runs() {
+    runs("play_runs", played);
 }
