@@ -8,6 +8,10 @@ pub mod Sayings
 pub mod WholeLines
 pub mod Blocks
 pub mod Reading
+pub mod Splits
+pub mod Joined
+pub mod Bounds
 pub mod Exact
 pub mod TickLines
-pub mod Within
+pub mod Examples
+mod Borders

@@ -32,7 +32,15 @@ no-feed (b ∷ bs) h = go (eqb b lineFeed) h (no-feed bs)
     go true g i = absurd (omega arith)
     go false g i = (ap {B = List ℕ} (λ l. b ∷ l) (i (omega arith) .0), i (omega arith) .1)
 
-text-of : (t more : List ℕ) → textOf (textOf t ++ (lineFeed ∷ more)) ≡ textOf t
+pub no-feed-text : (t : List ℕ) → whole t ≡ false → textOf t ≡ t
+no-feed-text [] e = refl
+no-feed-text (b ∷ bs) e = go (eqb b lineFeed) e (no-feed-text bs)
+  where
+    go : (u : Bool) → pick u true (whole bs) ≡ false → (whole bs ≡ false → textOf bs ≡ bs) → pick u [] (b ∷ textOf bs) ≡ b ∷ bs
+    go true f i = let z : _≡_ {A = ℕ} 0 1 = cc in absurd (omega arith)
+    go false f i = ap {B = List ℕ} (λ l. b ∷ l) (i f)
+
+pub text-of : (t more : List ℕ) → textOf (textOf t ++ (lineFeed ∷ more)) ≡ textOf t
 text-of [] more = refl
 text-of (b ∷ bs) more = go (eqb b lineFeed) refl (text-of bs more)
   where

@@ -9,7 +9,7 @@ use lib.ListN.{length, drop, set}
 use lib.Seq.{sets}
 use Rattle.word.specs.Choice.{pick, _and_}
 use Rattle.word.specs.Word.{low}
-use Rattle.word.specs.Tick.{Tick, tick, headOr}
+use Rattle.word.specs.Tick.{Tick, tick, headOr, zeros}
 use Rattle.column.specs.Number.{space, same, contains, numberIn, wordOf}
 use Rattle.column.specs.Line.{lineFeed, lines, before}
 use Rattle.player.specs.declared.samples.Stop.{Stop}
@@ -159,3 +159,7 @@ lineBefore malformed controls after = []
 unfoldable pub history : ℕ → List ℕ → List (List ℕ) → List Tick
 history n controls [] = []
 history n controls (l ∷ ls) = lineBefore (said n (textOf l)) controls (λ cs. history n cs ls)
+
+-- the ticks that an input asks for: its samples, with all controls 0 until set
+unfoldable pub asked : ℕ → List ℕ → List Tick
+asked n input = history n (zeros 16) (lines (samplesPart input))

@@ -212,6 +212,17 @@ fn said(line: &[u8], inputs: usize) -> Kind
     Kind::Malformed
 }
 
+// A block that ends after so many ticks and bytes.
+fn stopped(ticks: usize, bytes: usize, stop: Stop) -> Block
+    ensures { λ r. ⌜ r ≡ record { ticks = ticks; bytes = bytes; stop = stop } ⌝ }
+{
+    Block {
+        ticks: ticks,
+        bytes: bytes,
+        stop: stop,
+    }
+}
+
 // Reads whole lines, as long as each is a tick and there is room for it: the inputs go into the samples one after another.
 pub fn read_block(text: &[u8], inputs: usize, samples: &mut [u32]) -> Block
     ensures { λ r. ⌜ blockRead r (now (samples .exit)) ≡ reads inputs (now (text .entry)) (now (samples .entry)) ⌝ }
@@ -221,43 +232,23 @@ pub fn read_block(text: &[u8], inputs: usize, samples: &mut [u32]) -> Block
     let mut next: usize = 0;
     loop {
         if ticks == MOST_TICKS {
-            return Block {
-                ticks: ticks,
-                bytes: at,
-                stop: Stop::Full,
-            };
+            return stopped(ticks, at, Stop::Full);
         }
         if samples.len() - next < inputs {
-            return Block {
-                ticks: ticks,
-                bytes: at,
-                stop: Stop::Full,
-            };
+            return stopped(ticks, at, Stop::Full);
         }
         let end = find(text, at, b'\n');
         if end == text.len() {
-            return Block {
-                ticks: ticks,
-                bytes: at,
-                stop: Stop::Rest,
-            };
+            return stopped(ticks, at, Stop::Rest);
         }
         let kind = said(&text[at..end], inputs);
         match kind {
-            Kind::Malformed => {
-                return Block {
-                    ticks: ticks,
-                    bytes: at,
-                    stop: Stop::Malformed,
-                };
-            }
-            Kind::Control(slot, value) => {
-                return Block {
-                    ticks: ticks,
-                    bytes: end + 1,
-                    stop: Stop::Control(slot, value),
-                };
-            }
+            Kind::Malformed => return stopped(ticks, at, Stop::Malformed),
+            Kind::Control(slot, value) => return stopped(
+                ticks,
+                end + 1,
+                Stop::Control(slot, value),
+            ),
             Kind::Tick => {
                 store(&text[at..end], samples, next);
                 next += inputs;

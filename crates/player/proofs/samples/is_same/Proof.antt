@@ -1,4 +1,4 @@
--- `player::samples::is_same` meets its contract.
+-- `player::samples::is_same` meets its contract: the texts are the same before `at`.
 use Prim.Native.Nat.{_-_, _≤_}
 use mathlib.Core.Path.{_≡_, sym, _∙_}
 use native.Mathlib.Omega.{arith}
@@ -28,7 +28,10 @@ shared-slice-read-if2-2 : tie.Need-shared-slice-read-if2-2 Inv-loop μ-loop
 shared-slice-read-if2-2 c = search needs
 
 returns-2 : tie.Need-returns-2 Inv-loop μ-loop
-returns-2 c = sym (c .before .before .before .before .loop .inv .1 .1 ∙ same-differs (c .before .before .before .before .before .before .args .text .now) (c .before .before .before .before .before .before .args .name .now) (c .before .before .before .before .loop .at) (c .before .before .before .before .loop .inv .0) (omega arith) (c .if2 .taken))
+returns-2 c =
+    let l = c .before .before .before .before .loop in
+    let a = c .before .before .before .before .before .before .args in
+    sym (l .inv .1 .1 ∙ same-differs (a .text .now) (a .name .now) (l .at) (l .inv .0) (omega arith) (c .if2 .taken))
 
 add-at : tie.Need-add-at Inv-loop μ-loop
 add-at c = search needs
@@ -37,10 +40,16 @@ loop-less : tie.Need-loop-less Inv-loop μ-loop
 loop-less c = search needs
 
 loop-again : tie.Need-loop-again Inv-loop μ-loop
-loop-again c = (c .before .before .before .before .loop .inv .0, (omega arith, c .before .before .before .before .loop .inv .1 .1 ∙ same-more (c .before .before .before .before .before .before .args .text .now) (c .before .before .before .before .before .before .args .name .now) (c .before .before .before .before .loop .at) (c .before .before .before .before .loop .inv .0) (omega arith) (c .if2 .left)))
+loop-again c =
+    let l = c .before .before .before .before .loop in
+    let a = c .before .before .before .before .before .before .args in
+    (l .inv .0, (omega arith, l .inv .1 .1 ∙ same-more (a .text .now) (a .name .now) (l .at) (l .inv .0) (omega arith) (c .if2 .left)))
 
 returns-3 : tie.Need-returns-3 Inv-loop μ-loop
-returns-3 c = sym (c .before .loop .inv .1 .1 ∙ same-ends (c .before .before .before .args .text .now) (c .before .before .before .args .name .now) (c .before .loop .at) (c .before .loop .inv .0) (omega arith))
+returns-3 c =
+    let l = c .before .loop in
+    let a = c .before .before .before .args in
+    sym (l .inv .1 .1 ∙ same-ends (a .text .now) (a .name .now) (l .at) (l .inv .0) (omega arith))
 
 pub is-same-spec : {M : Type 1} → statement M
 is-same-spec =

@@ -1,4 +1,4 @@
--- `player::samples::is_tick` meets its contract.
+-- `player::samples::is_tick` meets its contract: the words before `at` are counted, each a number.
 use Prim.Native.Nat.{_-_}
 use native.Mathlib.Omega.{arith}
 use borrow.Author.Needs.{needs}
@@ -20,7 +20,11 @@ next-word-requires : tie.Need-next-word-requires Inv-loop μ-loop
 next-word-requires c κs = search needs
 
 returns : tie.Need-returns Inv-loop μ-loop
-returns c = counted-all (c .before .before .before .before .args .line .now) (c .before .before .loop .at) (c .before .next-word .result) (c .before .next-word .ensures) (c .before .before .loop .count) (c .before .before .before .before .args .inputs) (c .before .before .loop .inv) (c .if1 .taken)
+returns c =
+    let a = c .before .before .before .before .args in
+    let l = c .before .before .loop in
+    let next-word = c .before .next-word in
+    counted-all (a .line .now) (l .at) (next-word .result) (next-word .ensures) (l .count) (a .inputs) (l .inv) (c .if1 .taken)
 
 sub-number : tie.Need-sub-number Inv-loop μ-loop
 sub-number c = search needs
@@ -41,7 +45,12 @@ enum-told-2 : tie.Need-enum-told-2 Inv-loop μ-loop
 enum-told-2 c = search needs
 
 returns-2 : tie.Need-returns-2 Inv-loop μ-loop
-returns-2 c = counted-other (c .before .before .before .before .before .before .before .before .args .line .now) (c .before .before .before .before .before .before .loop .at) (c .before .before .before .before .before .next-word .result) (c .before .before .before .before .before .next-word .ensures) (c .before .before .before .before .before .before .loop .count) (c .before .before .before .before .before .before .loop .inv) (omega arith) (c .before .before .number .result) (c .before .before .number .ensures) (c .before .before .before .before .before .before .before .before .args .inputs) (c .enum-told2 .given .1)
+returns-2 c =
+    let a = c .before .before .before .before .before .before .before .before .args in
+    let l = c .before .before .before .before .before .before .loop in
+    let next-word = c .before .before .before .before .before .next-word in
+    let number = c .before .before .number in
+    counted-other (a .line .now) (l .at) (next-word .result) (next-word .ensures) (l .count) (l .inv) (omega arith) (number .result) (number .ensures) (a .inputs) (c .enum-told2 .given .1)
 
 add-count : tie.Need-add-count Inv-loop μ-loop
 add-count c = search needs
@@ -50,7 +59,13 @@ loop-less : tie.Need-loop-less Inv-loop μ-loop
 loop-less c = search needs
 
 loop-again : tie.Need-loop-again Inv-loop μ-loop
-loop-again c = counted-one (c .before .before .before .before .before .before .before .before .args .line .now) (c .before .before .before .before .before .before .loop .at) (c .before .before .before .before .before .next-word .result) (c .before .before .before .before .before .next-word .ensures) (c .before .before .before .before .before .before .loop .count) (c .before .before .before .before .before .before .loop .inv) (omega arith) (c .before .before .number .result) (c .before .before .number .ensures) (c .enum-told .given .0 .0) (c .enum-told .given .1)
+loop-again c =
+    let a = c .before .before .before .before .before .before .before .before .args in
+    let l = c .before .before .before .before .before .before .loop in
+    let next-word = c .before .before .before .before .before .next-word in
+    let number = c .before .before .number in
+    let enum-told = c .enum-told in
+    counted-one (a .line .now) (l .at) (next-word .result) (next-word .ensures) (l .count) (l .inv) (omega arith) (number .result) (number .ensures) (enum-told .given .0 .0) (enum-told .given .1)
 
 pub is-tick-spec : {M : Type 1} → statement M
 is-tick-spec =

@@ -1,4 +1,4 @@
--- `player::samples::next_word` meets its contract.
+-- `player::samples::next_word` meets its contract: only spaces stand between `at` and `begin`.
 use Prim.Native.Nat.{_-_, _≤_}
 use mathlib.Core.Path.{_≡_, _∙_}
 use native.Mathlib.Omega.{arith}

@@ -1,6 +1,5 @@
--- `player::samples::said` meets its contract.
+-- `player::samples::said` meets its contract: the first word decides.
 use mathlib.Core.Path.{sym, _∙_}
-use borrow.Author.Needs.{needs}
 use borrow.Author.Needs.{needs}
 use Rattle.player.proofs.Sayings.{says-control, says-tick, says-nothing}
 use Rattle.player.proofs.samples.said.Statement.{statement}
@@ -28,16 +27,25 @@ setting-requires : tie.Need-setting-requires
 setting-requires c κs = search needs
 
 returns : tie.Need-returns
-returns c = c .setting .ensures ∙ says-control (c .before .before .before .before .before .before .before .args .line .now) (c .before .before .before .before .before .before .before .args .inputs) (c .before .before .before .before .before .next-word .result) (c .before .before .before .before .before .next-word .ensures) (sym (c .before .before .is-same .ensures) ∙ c .before .if1 .taken)
+returns c =
+    let a = c .before .before .before .before .before .before .before .args in
+    let next-word = c .before .before .before .before .before .next-word in
+    c .setting .ensures ∙ says-control (a .line .now) (a .inputs) (next-word .result) (next-word .ensures) (sym (c .before .before .is-same .ensures) ∙ c .before .if1 .taken)
 
 is-tick-requires : tie.Need-is-tick-requires
 is-tick-requires c κs = search needs
 
 returns-2 : tie.Need-returns-2
-returns-2 c = says-tick (c .before .before .before .before .before .before .before .before .args .line .now) (c .before .before .before .before .before .before .before .before .args .inputs) (c .before .before .before .before .before .before .next-word .result) (c .before .before .before .before .before .before .next-word .ensures) (sym (c .before .before .before .is-same .ensures) ∙ c .before .before .if1 .left) (sym (c .before .is-tick .ensures) ∙ c .if2 .taken)
+returns-2 c =
+    let a = c .before .before .before .before .before .before .before .before .args in
+    let next-word = c .before .before .before .before .before .before .next-word in
+    says-tick (a .line .now) (a .inputs) (next-word .result) (next-word .ensures) (sym (c .before .before .before .is-same .ensures) ∙ c .before .before .if1 .left) (sym (c .before .is-tick .ensures) ∙ c .if2 .taken)
 
 returns-3 : tie.Need-returns-3
-returns-3 c = says-nothing (c .before .before .before .before .before .before .before .before .args .line .now) (c .before .before .before .before .before .before .before .before .args .inputs) (c .before .before .before .before .before .before .next-word .result) (c .before .before .before .before .before .before .next-word .ensures) (sym (c .before .before .before .is-same .ensures) ∙ c .before .before .if1 .left) (sym (c .before .is-tick .ensures) ∙ c .if2 .left)
+returns-3 c =
+    let a = c .before .before .before .before .before .before .before .before .args in
+    let next-word = c .before .before .before .before .before .before .next-word in
+    says-nothing (a .line .now) (a .inputs) (next-word .result) (next-word .ensures) (sym (c .before .before .before .is-same .ensures) ∙ c .before .before .if1 .left) (sym (c .before .is-tick .ensures) ∙ c .if2 .left)
 
 pub said-spec : {M : Type 1} → statement M
 said-spec =

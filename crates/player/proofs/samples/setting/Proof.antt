@@ -1,5 +1,5 @@
--- `player::samples::setting` meets its contract.
-use borrow.Author.Needs.{needs}
+-- `player::samples::setting` meets its contract: each answer by the words that were found.
+use native.Mathlib.Omega.{arith}
 use borrow.Author.Needs.{needs}
 use Rattle.player.proofs.Settings.{no-slot, no-value, three-words, large-slot, is-setting}
 use Rattle.player.proofs.samples.setting.Statement.{statement}
@@ -27,7 +27,11 @@ enum-told : tie.Need-enum-told
 enum-told c = search needs
 
 returns : tie.Need-returns
-returns c = no-slot (c .before .before .before .before .before .before .args .line .now) (c .before .before .before .before .before .before .args .at) (c .before .before .before .before .next-word .result) (c .before .before .before .before .next-word .ensures) (c .before .before .number .result) (c .before .before .number .ensures) (c .enum-told .given .1)
+returns c =
+    let a = c .before .before .before .before .before .before .args in
+    let next-word = c .before .before .before .before .next-word in
+    let number = c .before .before .number in
+    no-slot (a .line .now) (a .at) (next-word .result) (next-word .ensures) (number .result) (number .ensures) (c .enum-told .given .1)
 
 next-word-requires-2 : tie.Need-next-word-requires-2
 next-word-requires-2 c κs = search needs
@@ -51,19 +55,53 @@ enum-told-2 : tie.Need-enum-told-2
 enum-told-2 c = search needs
 
 returns-2 : tie.Need-returns-2
-returns-2 c = no-value (c .before .before .before .before .before .before .before .before .before .before .before .before .args .line .now) (c .before .before .before .before .before .before .before .before .before .before .before .before .args .at) (c .before .before .before .before .before .before .before .before .before .before .next-word .result) (c .before .before .before .before .before .before .before .before .before .before .next-word .ensures) (c .before .before .before .before .before .before .before .before .number .result) (c .before .before .before .before .before .before .before .before .number .ensures) (c .before .before .before .before .before .before .slot-read .given .0 .0) (c .before .before .before .before .before .before .slot-read .given .1) (c .before .before .before .before .next-word2 .result) (c .before .before .before .before .next-word2 .ensures) (c .before .before .number2 .result) (c .before .before .number2 .ensures) (c .enum-told2 .given .1)
+returns-2 c =
+    let a = c .before .before .before .before .before .before .before .before .before .before .before .before .args in
+    let next-word = c .before .before .before .before .before .before .before .before .before .before .next-word in
+    let number = c .before .before .before .before .before .before .before .before .number in
+    let slot-read = c .before .before .before .before .before .before .slot-read in
+    let next-word2 = c .before .before .before .before .next-word2 in
+    let number2 = c .before .before .number2 in
+    no-value (a .line .now) (a .at) (next-word .result) (next-word .ensures) (number .result) (number .ensures) (slot-read .given .0 .0) (slot-read .given .1) (next-word2 .result) (next-word2 .ensures) (number2 .result) (number2 .ensures) (c .enum-told2 .given .1)
 
 next-word-requires-3 : tie.Need-next-word-requires-3
 next-word-requires-3 c κs = search needs
 
 returns-3 : tie.Need-returns-3
-returns-3 c = three-words (c .before .before .before .before .before .before .before .before .before .before .before .before .before .before .before .before .args .line .now) (c .before .before .before .before .before .before .before .before .before .before .before .before .before .before .before .before .args .at) (c .before .before .before .before .before .before .before .before .before .before .before .before .before .before .next-word .result) (c .before .before .before .before .before .before .before .before .next-word2 .result) (c .before .before .next-word3 .result) (c .before .before .before .before .before .before .before .before .before .before .before .before .before .before .next-word .ensures) (c .before .before .before .before .before .before .before .before .next-word2 .ensures) (c .before .before .next-word3 .ensures) (c .before .before .before .before .before .before .before .before .before .before .before .before .number .result) (c .before .before .before .before .before .before .number2 .result) (c .before .before .before .before .before .before .before .before .before .before .slot-read .given .0 .0) (c .before .before .before .before .value-read .given .0 .0) (c .before .before .before .before .before .before .before .before .before .before .slot-read .given .1) (c .before .before .before .before .before .before .before .before .before .before .before .before .number .ensures) (c .before .before .before .before .value-read .given .1) (c .before .before .before .before .before .before .number2 .ensures) (c .if1 .taken)
+returns-3 c =
+    let a = c .before .before .before .before .before .before .before .before .before .before .before .before .before .before .before .before .args in
+    let next-word = c .before .before .before .before .before .before .before .before .before .before .before .before .before .before .next-word in
+    let next-word2 = c .before .before .before .before .before .before .before .before .next-word2 in
+    let next-word3 = c .before .before .next-word3 in
+    let number = c .before .before .before .before .before .before .before .before .before .before .before .before .number in
+    let number2 = c .before .before .before .before .before .before .number2 in
+    let slot-read = c .before .before .before .before .before .before .before .before .before .before .slot-read in
+    let value-read = c .before .before .before .before .value-read in
+    three-words (a .line .now) (a .at) (next-word .result) (next-word2 .result) (next-word3 .result) (next-word .ensures) (next-word2 .ensures) (next-word3 .ensures) (number .result) (number2 .result) (slot-read .given .0 .0) (value-read .given .0 .0) (slot-read .given .1) (number .ensures) (value-read .given .1) (number2 .ensures) (c .if1 .taken)
 
 returns-4 : tie.Need-returns-4
-returns-4 c = large-slot (c .before .before .before .before .before .before .before .before .before .before .before .before .before .before .before .before .before .args .line .now) (c .before .before .before .before .before .before .before .before .before .before .before .before .before .before .before .before .before .args .at) (c .before .before .before .before .before .before .before .before .before .before .before .before .before .before .before .next-word .result) (c .before .before .before .before .before .before .before .before .before .next-word2 .result) (c .before .before .before .next-word3 .result) (c .before .before .before .before .before .before .before .before .before .before .before .before .before .before .before .next-word .ensures) (c .before .before .before .before .before .before .before .before .before .next-word2 .ensures) (c .before .before .before .next-word3 .ensures) (c .before .before .before .before .before .before .before .before .before .before .before .before .before .number .result) (c .before .before .before .before .before .before .before .number2 .result) (c .before .before .before .before .before .before .before .before .before .before .before .slot-read .given .0 .0) (c .before .before .before .before .before .value-read .given .0 .0) (c .before .before .before .before .before .before .before .before .before .before .before .slot-read .given .1) (c .before .before .before .before .before .before .before .before .before .before .before .before .before .number .ensures) (c .before .before .before .before .before .value-read .given .1) (c .before .before .before .before .before .before .before .number2 .ensures) (c .before .if1 .left) (c .if2 .taken)
+returns-4 c =
+    let a = c .before .before .before .before .before .before .before .before .before .before .before .before .before .before .before .before .before .args in
+    let next-word = c .before .before .before .before .before .before .before .before .before .before .before .before .before .before .before .next-word in
+    let next-word2 = c .before .before .before .before .before .before .before .before .before .next-word2 in
+    let next-word3 = c .before .before .before .next-word3 in
+    let number = c .before .before .before .before .before .before .before .before .before .before .before .before .before .number in
+    let number2 = c .before .before .before .before .before .before .before .number2 in
+    let slot-read = c .before .before .before .before .before .before .before .before .before .before .before .slot-read in
+    let value-read = c .before .before .before .before .before .value-read in
+    large-slot (a .line .now) (a .at) (next-word .result) (next-word2 .result) (next-word3 .result) (next-word .ensures) (next-word2 .ensures) (next-word3 .ensures) (number .result) (number2 .result) (slot-read .given .0 .0) (value-read .given .0 .0) (slot-read .given .1) (number .ensures) (value-read .given .1) (number2 .ensures) (c .before .if1 .left) (omega arith)
 
 returns-5 : tie.Need-returns-5
-returns-5 c = is-setting (c .before .before .before .before .before .before .before .before .before .before .before .before .before .before .before .before .before .args .line .now) (c .before .before .before .before .before .before .before .before .before .before .before .before .before .before .before .before .before .args .at) (c .before .before .before .before .before .before .before .before .before .before .before .before .before .before .before .next-word .result) (c .before .before .before .before .before .before .before .before .before .next-word2 .result) (c .before .before .before .next-word3 .result) (c .before .before .before .before .before .before .before .before .before .before .before .before .before .before .before .next-word .ensures) (c .before .before .before .before .before .before .before .before .before .next-word2 .ensures) (c .before .before .before .next-word3 .ensures) (c .before .before .before .before .before .before .before .before .before .before .before .before .before .number .result) (c .before .before .before .before .before .before .before .number2 .result) (c .before .before .before .before .before .before .before .before .before .before .before .slot-read .given .0 .0) (c .before .before .before .before .before .value-read .given .0 .0) (c .before .before .before .before .before .before .before .before .before .before .before .slot-read .given .1) (c .before .before .before .before .before .before .before .before .before .before .before .before .before .number .ensures) (c .before .before .before .before .before .value-read .given .1) (c .before .before .before .before .before .before .before .number2 .ensures) (c .before .if1 .left) (c .if2 .left)
+returns-5 c =
+    let a = c .before .before .before .before .before .before .before .before .before .before .before .before .before .before .before .before .before .args in
+    let next-word = c .before .before .before .before .before .before .before .before .before .before .before .before .before .before .before .next-word in
+    let next-word2 = c .before .before .before .before .before .before .before .before .before .next-word2 in
+    let next-word3 = c .before .before .before .next-word3 in
+    let number = c .before .before .before .before .before .before .before .before .before .before .before .before .before .number in
+    let number2 = c .before .before .before .before .before .before .before .number2 in
+    let slot-read = c .before .before .before .before .before .before .before .before .before .before .before .slot-read in
+    let value-read = c .before .before .before .before .before .value-read in
+    is-setting (a .line .now) (a .at) (next-word .result) (next-word2 .result) (next-word3 .result) (next-word .ensures) (next-word2 .ensures) (next-word3 .ensures) (number .result) (number2 .result) (slot-read .given .0 .0) (value-read .given .0 .0) (slot-read .given .1) (number .ensures) (value-read .given .1) (number2 .ensures) (c .before .if1 .left) (omega arith)
 
 pub setting-spec : {M : Type 1} → statement M
 setting-spec =

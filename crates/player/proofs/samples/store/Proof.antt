@@ -1,4 +1,4 @@
--- `player::samples::store` meets its contract.
+-- `player::samples::store` meets its contract: the words before `at` are stored.
 use Prim.Native.Nat.{_-_}
 use native.Mathlib.Omega.{arith}
 use borrow.Author.Needs.{needs}
@@ -14,7 +14,9 @@ abbrev μ-loop : tie.MeasureT-loop
 μ-loop line samples₀ from at₀ next₀ samples at next = length line - at
 
 loop-holds : tie.Need-loop-holds Inv-loop μ-loop
-loop-holds c = storing-starts (c .before .before .args .line .now) (c .before .before .args .samples .now) (c .before .before .args .from) (c .before .before .pre)
+loop-holds c =
+    let a = c .before .before .args in
+    storing-starts (a .line .now) (a .samples .now) (a .from) (c .before .before .pre)
 
 next-word-requires : tie.Need-next-word-requires Inv-loop μ-loop
 next-word-requires c κs = search needs
@@ -23,7 +25,11 @@ same-length : tie.Need-same-length Inv-loop μ-loop
 same-length c = search needs
 
 returns : tie.Need-returns Inv-loop μ-loop
-returns c = stored-all (c .before .before .before .before .before .args .line .now) (c .before .before .loop .at) (c .before .next-word .result) (c .before .next-word .ensures) (c .before .before .before .before .before .args .samples .now) (c .before .before .before .before .before .args .from) (c .before .before .loop .samples) (c .before .before .loop .next) (c .before .before .loop .inv) (c .if1 .taken)
+returns c =
+    let a = c .before .before .before .before .before .args in
+    let l = c .before .before .loop in
+    let next-word = c .before .next-word in
+    stored-all (a .line .now) (l .at) (next-word .result) (next-word .ensures) (a .samples .now) (a .from) (l .samples) (l .next) (l .inv) (c .if1 .taken)
 
 sub-word-of : tie.Need-sub-word-of Inv-loop μ-loop
 sub-word-of c = search needs
@@ -41,7 +47,11 @@ mul-samples : tie.Need-mul-samples Inv-loop μ-loop
 mul-samples c = search needs
 
 slice-write-samples : tie.Need-slice-write-samples Inv-loop μ-loop
-slice-write-samples c = stored-room (c .before .before .before .before .before .before .before .args .line .now) (c .before .before .before .before .loop .at) (c .before .before .before .next-word .result) (c .before .before .before .next-word .ensures) (c .before .before .before .before .before .before .before .args .samples .now) (c .before .before .before .before .before .before .before .args .from) (c .before .before .before .before .loop .samples) (c .before .before .before .before .loop .next) (c .before .before .before .before .loop .inv) (omega arith)
+slice-write-samples c =
+    let a = c .before .before .before .before .before .before .before .args in
+    let l = c .before .before .before .before .loop in
+    let next-word = c .before .before .before .next-word in
+    stored-room (a .line .now) (l .at) (next-word .result) (next-word .ensures) (a .samples .now) (a .from) (l .samples) (l .next) (l .inv) (omega arith)
 
 add-next : tie.Need-add-next Inv-loop μ-loop
 add-next c = search needs
@@ -50,7 +60,12 @@ loop-less : tie.Need-loop-less Inv-loop μ-loop
 loop-less c = search needs
 
 loop-again : tie.Need-loop-again Inv-loop μ-loop
-loop-again c = stored-one (c .before .before .before .before .before .before .before .args .line .now) (c .before .before .before .before .loop .at) (c .before .before .before .next-word .result) (c .before .before .before .next-word .ensures) (c .before .before .before .before .before .before .before .args .samples .now) (c .before .before .before .before .before .before .before .args .from) (c .before .before .before .before .loop .samples) (c .before .before .before .before .loop .next) (c .before .before .before .before .loop .inv) (c .word-of .result) (omega arith) (c .word-of .ensures)
+loop-again c =
+    let a = c .before .before .before .before .before .before .before .args in
+    let l = c .before .before .before .before .loop in
+    let next-word = c .before .before .before .next-word in
+    let word-of = c .word-of in
+    stored-one (a .line .now) (l .at) (next-word .result) (next-word .ensures) (a .samples .now) (a .from) (l .samples) (l .next) (l .inv) (word-of .result) (omega arith) (word-of .ensures)
 
 pub store-spec : {M : Type 1} → statement M
 store-spec =

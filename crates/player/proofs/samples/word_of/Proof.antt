@@ -1,6 +1,5 @@
 -- `player::samples::word_of` meets its contract.
 use borrow.Author.Needs.{needs}
-use borrow.Author.Needs.{needs}
 use Rattle.column.specs.Number.{numberIn}
 use Rattle.column.proofs.Found.{found-word, found-none}
 use Rattle.player.proofs.samples.word_of.Statement.{statement}
