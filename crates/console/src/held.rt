@@ -5,8 +5,8 @@ ghost use lib.ListN.{length};
 ghost use Rattle.console.specs.Held.{Stands, Grown};
 use crate::messages::print_malformed;
 
-// What is to be played: the bytes of the buffer from `at` to `end`, whose first line has this number in the input. The input
-// may give more as long as it is open; nothing is left to do when it is over.
+// What is to be played: the bytes of the buffer from `at` to `end`, whose first line has this number in the input, modulo
+// 2^64. The input may give more as long as it is open; nothing is left to do when it is over.
 pub struct Rest {
     pub at: usize,
     pub end: usize,

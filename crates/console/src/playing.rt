@@ -149,7 +149,7 @@ fn play_block(
     }
 }
 
-// Plays block after block.
+// Plays block after block; nothing says that an input ends, so the blocks are counted.
 fn play_blocks(
     from: i32,
     code: &[u32],

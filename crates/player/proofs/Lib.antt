@@ -13,5 +13,6 @@ pub mod Joined
 pub mod Bounds
 pub mod Exact
 pub mod TickLines
+mod TickExamples
 pub mod Examples
 mod Borders
