@@ -17,7 +17,7 @@ use Rattle.column.specs.Line.{lines}
 use Rattle.player.specs.declared.samples.Stop.the-variants.{Full, Rest}
 use Rattle.player.specs.declared.samples.Kind.{Kind}
 use Rattle.player.specs.declared.samples.Kind.the-variants.{Tick, Control, Malformed}
-use Rattle.player.specs.Samples.{Said, words, wordIn, areNumbers, isTick, setting, controlSaid, controlWord, said, textOf, stopped, lineThen, noMore, starting}
+use Rattle.player.specs.Samples.{Said, words, wordIn, areNumbers, isTick, setting, controlSaid, controlWord, wordsSaid, longestLine, said, textOf, stopped, lineThen, noMore, starting}
 use Rattle.player.specs.Samples.Said.{inputs, control, malformed}
 use Rattle.player.specs.Promises.{kindOf}
 use Rattle.player.proofs.WholeLines.{first-whole, no-whole}
@@ -58,18 +58,22 @@ pub record TickSaid (n : ℕ) (t : List ℕ) : Type 0 where
 
 pub kind-tick : (n : ℕ) (t : List ℕ) (k : Kind) → k ≡ kindOf (said n t) → k ≡ Tick → TickSaid n t
 unfolding said
-kind-tick n t k e f = byFirst (same (headOr [] (words t)) controlWord) refl (sym e ∙ f)
+kind-tick n t k e f = byLength (ltb (length t) longestLine) refl (sym e ∙ f)
   where
-    byCount : (u v : Bool) → eqb (length (words t)) n ≡ u → areNumbers (words t) ≡ v → same (headOr [] (words t)) controlWord ≡ false
+    byCount : (u v : Bool) → ltb (length t) longestLine ≡ true → eqb (length (words t)) n ≡ u → areNumbers (words t) ≡ v → same (headOr [] (words t)) controlWord ≡ false
         → kindOf (pick (u and v) (inputs (map wordIn (words t))) malformed) ≡ Tick → TickSaid n t
-    byCount true true p q c g = record { says = rw (c, p, q); count = eqb-true (length (words t)) n p }
-    byCount true false p q c g = let z : _≡_ {A = ℕ} 0 1 = cc in absurd (omega arith)
-    byCount false v p q c g = let z : _≡_ {A = ℕ} 0 1 = cc in absurd (omega arith)
+    byCount true true s p q c g = record { says = rw (s, c, p, q); count = eqb-true (length (words t)) n p }
+    byCount true false s p q c g = let z : _≡_ {A = ℕ} 0 1 = cc in absurd (omega arith)
+    byCount false v s p q c g = let z : _≡_ {A = ℕ} 0 1 = cc in absurd (omega arith)
 
-    byFirst : (u : Bool) → same (headOr [] (words t)) controlWord ≡ u
+    byFirst : (u : Bool) → ltb (length t) longestLine ≡ true → same (headOr [] (words t)) controlWord ≡ u
         → kindOf (pick u (controlSaid (drop 1 (words t))) (pick (isTick n (words t)) (inputs (map wordIn (words t))) malformed)) ≡ Tick → TickSaid n t
-    byFirst true c g = absurd (no-tick (drop 1 (words t)) g)
-    byFirst false c g = byCount (eqb (length (words t)) n) (areNumbers (words t)) refl refl c g
+    byFirst true s c g = absurd (no-tick (drop 1 (words t)) g)
+    byFirst false s c g = byCount (eqb (length (words t)) n) (areNumbers (words t)) s refl refl c g
+
+    byLength : (u : Bool) → ltb (length t) longestLine ≡ u → kindOf (pick u (wordsSaid n (words t)) malformed) ≡ Tick → TickSaid n t
+    byLength true s g = byFirst (same (headOr [] (words t)) controlWord) s refl g
+    byLength false s g = let z : _≡_ {A = ℕ} 0 1 = cc in absurd (omega arith)
 
 -- what stands first in a text
 module _ (n most room : ℕ) where

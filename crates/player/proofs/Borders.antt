@@ -5,6 +5,7 @@ use mathlib.Core.Bool.{false}
 use mathlib.Core.List.{List, [], _∷_, _++_, flatten}
 use mathlib.Core.Logic.{_⊎_, inl, inr, ⊎-elim}
 use native.Mathlib.Omega.{arith}
+use borrow.Author.Tests.{lt-ltb}
 use lib.ListN.{length, take, drop}
 use Rattle.word.specs.Word.{low}
 use Rattle.word.specs.Tick.{tick, zeros}
@@ -12,9 +13,9 @@ use Rattle.column.specs.Number.{digits, decimal, numeral, column, candidate, nu
 use Rattle.column.specs.Line.{lines}
 use Rattle.player.specs.declared.samples.Block.{Block}
 use Rattle.player.specs.declared.samples.Stop.the-variants.{Full, Rest, Control}
-use Rattle.player.specs.Samples.{circuitPart, samplesPart, words, said, whole, starting, blockRead, reads, history}
+use Rattle.player.specs.Samples.{circuitPart, samplesPart, words, wordsSaid, longestLine, said, whole, starting, blockRead, reads, history}
 use Rattle.player.proofs.Parts.{circuit-of-first, input-parts}
-use Rattle.player.proofs.Joined.{blocks-join, last-line}
+use Rattle.player.proofs.Joined.{blocks-join, last-line, long-line}
 use Rattle.player.proofs.Bounds.{block-bounded, read-bounded, inputs-first}
 
 -- the bytes that decide on a column file
@@ -65,6 +66,14 @@ control-holds more = blocks-join 2 256 8192 (zeros 16) ((49 ∷ 32 ∷ 45 ∷ 50
 cut-line : (controls more : List ℕ) → history 2 controls (lines ((49 ∷ 32 ∷ 50 ∷ 10 ∷ 51 ∷ []) ++ more)) ≡ tick (1 ∷ 2 ∷ []) controls ∷ history 2 controls (lines (51 ∷ more))
 unfolding starting lines said words numberIn candidate column numeral decimal digits low
 cut-line controls more = blocks-join 2 1 2 controls ((49 ∷ 32 ∷ 50 ∷ 10 ∷ 51 ∷ [])) more
+
+-- the longest line, and one byte more
+longest-said : (n : ℕ) (t : List ℕ) → length t ≡ 65535 → said n t ≡ wordsSaid n (words t)
+unfolding said
+longest-said n t e = rw (lt-ltb (length t) longestLine (omega arith))
+
+too-long : (n : ℕ) (controls piece more : List ℕ) → length piece ≡ 65536 → whole piece ≡ false → history n controls (lines (piece ++ more)) ≡ []
+too-long n controls piece more e w = long-line n controls piece more (omega arith) w
 
 -- a last line of one byte
 last-byte : (n b : ℕ) (controls : List ℕ) → whole (b ∷ []) ≡ false → history n controls (lines (b ∷ 10 ∷ [])) ≡ history n controls (lines (b ∷ []))

@@ -21,7 +21,7 @@ use Rattle.column.proofs.Stores.{sets-front}
 use Rattle.player.specs.declared.samples.Block.{Block}
 use Rattle.player.specs.declared.samples.Stop.{Stop}
 use Rattle.player.specs.declared.samples.Stop.the-variants.{Full, Rest, Control, Malformed}
-use Rattle.player.specs.Samples.{Said, words, wordIn, areNumbers, setting, controlSaid, controlWord, said, textOf, whole, Start, stopped, lineThen, noMore, starting, mostTicks, BlockRead, blockRead, reads}
+use Rattle.player.specs.Samples.{Said, words, wordIn, areNumbers, setting, controlSaid, controlWord, wordsSaid, longestLine, said, textOf, whole, Start, stopped, lineThen, noMore, starting, mostTicks, BlockRead, blockRead, reads}
 use Rattle.player.specs.Samples.Said.{inputs, control, malformed}
 use Rattle.player.specs.Laws.{Bounded, BlockBounded, InputsFirst}
 use Rattle.player.proofs.Splits.{Split, splits, no-lines}
@@ -53,15 +53,22 @@ module _ (n : ℕ) where
   control-plain (s ∷ (v ∷ [])) = setting-plain (numberIn s) (numberIn v)
   control-plain (s ∷ (v ∷ (w ∷ ws))) = nothing-plain
 
-  said-plain : (t : List ℕ) → Plain n (said n t)
-  unfolding said
-  said-plain t = go (same (headOr [] (words t)) controlWord) (eqb (length (words t)) n) (areNumbers (words t)) refl
+  words-plain : (ws : List (List ℕ)) → Plain n (wordsSaid n ws)
+  words-plain ws = go (same (headOr [] ws) controlWord) (eqb (length ws) n) (areNumbers ws) refl
     where
-      go : (a b c : Bool) → eqb (length (words t)) n ≡ b → Plain n (pick a (controlSaid (drop 1 (words t))) (pick (b and c) (inputs (map wordIn (words t))) malformed))
-      go true b c e = control-plain (drop 1 (words t))
-      go false true true e = tick-plain (map wordIn (words t)) (length-map (words t) wordIn ∙ eqb-true (length (words t)) n e)
+      go : (a b c : Bool) → eqb (length ws) n ≡ b → Plain n (pick a (controlSaid (drop 1 ws)) (pick (b and c) (inputs (map wordIn ws)) malformed))
+      go true b c e = control-plain (drop 1 ws)
+      go false true true e = tick-plain (map wordIn ws) (length-map ws wordIn ∙ eqb-true (length ws) n e)
       go false true false e = nothing-plain
       go false false c e = nothing-plain
+
+  said-plain : (t : List ℕ) → Plain n (said n t)
+  unfolding said
+  said-plain t = go (ltb (length t) longestLine)
+    where
+      go : (a : Bool) → Plain n (pick a (wordsSaid n (words t)) malformed)
+      go true = words-plain (words t)
+      go false = nothing-plain
 
 -- the bounds of what stands first in a text
 record Fits (n most room : ℕ) (text : List ℕ) (s : Start) : Type 0 where

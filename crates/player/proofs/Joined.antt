@@ -1,19 +1,22 @@
 -- The ticks of all lines are those of the first block and of what is left after it.
-use Prim.Native.Nat.{ℕ, suc, _-_}
+use Prim.Native.Nat.{ℕ, suc, _+_, _-_}
 use mathlib.Core.Path.{_≡_, refl, sym, ap, _∙_}
 use mathlib.Core.Bool.{Bool, true, false}
 use mathlib.Core.List.{List, [], _∷_, _++_}
 use native.Mathlib.Omega.{arith}
+use borrow.Author.Tests.{le-ltb}
 use lib.ListN.{length, drop, length-append, drop-of-length-le}
 use lib.Seq.{drop-drop}
 use Rattle.word.specs.Choice.{pick}
 use Rattle.word.specs.Tick.{Tick, tick}
 use Rattle.column.specs.Line.{lineFeed, lines}
+use Rattle.column.specs.Promises.{firstLine}
+use Rattle.column.proofs.Lines.{lines-first}
 use Rattle.player.specs.declared.samples.Stop.the-variants.{Full, Rest}
-use Rattle.player.specs.Samples.{Said, said, textOf, whole, Start, stopped, lineThen, noMore, starting, lineBefore, history}
+use Rattle.player.specs.Samples.{Said, longestLine, said, textOf, whole, Start, stopped, lineThen, noMore, starting, lineBefore, history}
 use Rattle.player.specs.Samples.Said.{inputs, control, malformed}
-use Rattle.player.specs.Laws.{blockThen, BlocksJoin, LastLine}
-use Rattle.player.proofs.WholeLines.{first-whole, no-whole, no-feed-text, text-of}
+use Rattle.player.specs.Laws.{blockThen, BlocksJoin, LastLine, LongLine}
+use Rattle.player.proofs.WholeLines.{first-whole, no-whole, no-feed-text, text-of, longer-text, first-text}
 use Rattle.player.proofs.Splits.{Split, splits}
 
 module _ (n : ℕ) (more : List ℕ) where
@@ -68,3 +71,12 @@ last-line n controls rest o w =
     one-line n controls ended _ (p .split ∙ ap {B = List (List ℕ)} (λ u. (textOf ended ++ (lineFeed ∷ [])) ∷ lines u) d)
     ∙ ap (λ (u : List ℕ). lineBefore (said n u) controls (λ cs. [])) (p .text ∙ f ∙ sym t)
     ∙ sym (one-line n controls rest rest (q .split))
+
+pub long-line : LongLine
+unfolding history said
+long-line n controls piece more h w =
+    let t : List ℕ = piece ++ more in
+    let l : length t ≡ length piece + length more = length-append piece more in
+    let f : textOf (firstLine t) ≡ piece ++ textOf more = first-text t ∙ longer-text piece more w in
+    let k : length (textOf (firstLine t)) ≡ length piece + length (textOf more) = ap length f ∙ length-append piece (textOf more) in
+    rw (lines-first t (omega arith), le-ltb (length (textOf (firstLine t))) longestLine (omega arith))

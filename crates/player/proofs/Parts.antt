@@ -3,11 +3,11 @@ use Prim.Native.Nat.{ℕ, zero, suc, _+_, _≤_, _<_}
 use mathlib.Core.Path.{_≡_, refl, ap}
 use mathlib.Core.Bool.{Bool, true, false}
 use mathlib.Core.List.{List, [], _∷_, _++_}
-use mathlib.Core.Logic.{_⊎_, inl, inr}
+use mathlib.Core.Logic.{_⊎_, inl, inr, ⊎-elim}
 use native.Mathlib.Omega.{arith}
 use borrow.Author.Tests.{eqb-true, eq-eqb}
 use lib.Dec.{eqb}
-use lib.ListN.{length, getD, take, drop, drop-of-length-le}
+use lib.ListN.{length, getD, take, drop, drop-of-length-le, length-append}
 use Rattle.word.specs.Choice.{pick, _and_}
 use Rattle.column.specs.Line.{lineFeed}
 use Rattle.column.proofs.Scan.{drop-at}
@@ -46,6 +46,11 @@ parted last (b ∷ bs) = go (eqb b lineFeed) (eqb last lineFeed) refl (parted b 
 pub input-parts : InputParts
 unfolding circuitPart samplesPart
 input-parts input = parted lineFeed input
+
+pub circuit-within : (input : List ℕ) → length (circuitPart input) ≤ length input
+circuit-within input =
+    ⊎-elim (λ (e : circuitPart input ++ (lineFeed ∷ samplesPart input) ≡ input). omega (arith, ap length e, length-append (circuitPart input) (lineFeed ∷ samplesPart input)))
+    (λ (p : (circuitPart input ≡ input) × (samplesPart input ≡ [])). omega (arith, ap length (p .0))) (input-parts input)
 
 -- the length of the circuit, byte by byte
 module _ (input : List ℕ) (at last : ℕ) where

@@ -40,6 +40,22 @@ no-feed-text (b ∷ bs) e = go (eqb b lineFeed) e (no-feed-text bs)
     go true f i = let z : _≡_ {A = ℕ} 0 1 = cc in absurd (omega arith)
     go false f i = ap {B = List ℕ} (λ l. b ∷ l) (i f)
 
+pub longer-text : (t more : List ℕ) → whole t ≡ false → textOf (t ++ more) ≡ t ++ textOf more
+longer-text [] more e = refl
+longer-text (b ∷ bs) more e = go (eqb b lineFeed) e (longer-text bs more)
+  where
+    go : (u : Bool) → pick u true (whole bs) ≡ false → (whole bs ≡ false → textOf (bs ++ more) ≡ bs ++ textOf more) → pick u [] (b ∷ textOf (bs ++ more)) ≡ b ∷ (bs ++ textOf more)
+    go true f i = let z : _≡_ {A = ℕ} 0 1 = cc in absurd (omega arith)
+    go false f i = ap {B = List ℕ} (λ l. b ∷ l) (i f)
+
+pub first-text : (t : List ℕ) → textOf (firstLine t) ≡ textOf t
+first-text [] = refl
+first-text (b ∷ bs) = go (eqb b lineFeed) refl (first-text bs)
+  where
+    go : (u : Bool) → eqb b lineFeed ≡ u → textOf (firstLine bs) ≡ textOf bs → textOf (pick u (b ∷ []) (b ∷ firstLine bs)) ≡ pick u [] (b ∷ textOf bs)
+    go true e i = rw e
+    go false e i = rw e (ap {B = List ℕ} (λ l. b ∷ l) i)
+
 pub text-of : (t more : List ℕ) → textOf (textOf t ++ (lineFeed ∷ more)) ≡ textOf t
 text-of [] more = refl
 text-of (b ∷ bs) more = go (eqb b lineFeed) refl (text-of bs more)

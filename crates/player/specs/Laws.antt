@@ -10,7 +10,7 @@ use Rattle.column.specs.Line.{lineFeed, lines}
 use Rattle.player.specs.declared.samples.Stop.{Stop}
 use Rattle.player.specs.declared.samples.Stop.the-variants.{Full, Rest, Control, Malformed}
 use Rattle.player.specs.declared.samples.Block.{Block}
-use Rattle.player.specs.Samples.{circuitPart, samplesPart, whole, Start, starting, mostTicks, reads, history}
+use Rattle.player.specs.Samples.{circuitPart, samplesPart, longestLine, whole, Start, starting, mostTicks, reads, history}
 
 -- the circuit of the first k bytes is the first k bytes of the circuit
 abbrev pub CircuitOfFirst : Type 0
@@ -51,6 +51,10 @@ blockThen n controls s text more = map (λ xs. tick xs controls) (s .ticks) ++ g
 -- however the samples are cut into pieces and blocks, the ticks are the same
 abbrev pub BlocksJoin : Type 0
 BlocksJoin = (n most room : ℕ) (controls text more : List ℕ) → history n controls (lines (text ++ more)) ≡ blockThen n controls (starting n most room (lines text)) text more
+
+-- a piece of 65,536 bytes without a line feed begins a line that is malformed, whatever comes after it
+abbrev pub LongLine : Type 0
+LongLine = (n : ℕ) (controls piece more : List ℕ) → longestLine ≤ length piece → whole piece ≡ false → history n controls (lines (piece ++ more)) ≡ []
 
 -- a last line without a line feed is the same line with one
 abbrev pub LastLine : Type 0

@@ -1,4 +1,4 @@
--- What stands before a player: a column file, an empty line, and then the samples, one line a tick.
+-- The input of a player: a column file, an empty line, and then the samples, one line a tick.
 use Prim.Native.Nat.{ℕ, suc, _+_, _-_}
 use mathlib.Core.Bool.{Bool, true, false}
 use mathlib.Core.List.{List, [], _∷_, map, flatten}
@@ -44,7 +44,7 @@ nonEmpty [] = []
 nonEmpty ([] ∷ ls) = nonEmpty ls
 nonEmpty ((b ∷ l) ∷ ls) = (b ∷ l) ∷ nonEmpty ls
 
--- the words of a line: "non-empty runs of bytes other than space"
+-- the words of a line: the non-empty runs of bytes other than space
 unfoldable pub words : List ℕ → List (List ℕ)
 words text = nonEmpty (pieces text)
 
@@ -66,14 +66,14 @@ areNumbers (w ∷ ws) = isNumber (numberIn w) and areNumbers ws
 abbrev pub wordIn : List ℕ → ℕ
 wordIn w = wordOf (numberIn w)
 
--- "exactly n words, each a number in the number form of the column file"
+-- a tick: exactly n words, each a number in the form of the column file
 abbrev pub isTick : ℕ → List (List ℕ) → Bool
 isTick n ws = eqb (length ws) n and areNumbers ws
 
 abbrev pub tickSaid : ℕ → List (List ℕ) → Said
 tickSaid n ws = pick (isTick n ws) (inputs (map wordIn ws)) malformed
 
--- "a number 0 to 15, a number": a negative number's word is above 15
+-- a control's slot, 0 to 15, and its value; the word of a negative number is above 15
 abbrev pub setting : Option ℤ → Option ℤ → Said
 setting none v = malformed
 setting (some s) none = malformed
@@ -93,9 +93,13 @@ controlWord = 99 ∷ 111 ∷ 110 ∷ 116 ∷ 114 ∷ 111 ∷ 108 ∷ []
 abbrev pub wordsSaid : ℕ → List (List ℕ) → Said
 wordsSaid n ws = pick (same (headOr [] ws) controlWord) (controlSaid (drop 1 ws)) (tickSaid n ws)
 
--- what a line says, without its line feed
+-- a line has at most so many bytes, with its line feed
+abbrev pub longestLine : ℕ
+longestLine = 65536
+
+-- what a line says, without its line feed; a longer one is malformed
 unfoldable pub said : ℕ → List ℕ → Said
-said n text = wordsSaid n (words text)
+said n text = pick (ltb (length text) longestLine) (wordsSaid n (words text)) malformed
 
 -- a line without its line feed, and whether it has one
 abbrev pub textOf : List ℕ → List ℕ
@@ -130,7 +134,7 @@ starting n most room (l ∷ ls) =
     let next = starting n (most - 1) (room - n) ls in
     pick (noMore n most room) (stopped 0 Full) (pick (whole l) (lineThen (said n (textOf l)) (length l) next) (stopped 0 Rest))
 
--- "Blocks of at most 256 ticks"
+-- a block has at most 256 ticks
 abbrev pub mostTicks : ℕ
 mostTicks = 256
 

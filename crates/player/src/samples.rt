@@ -13,6 +13,9 @@ use column::read_number as number;
 // A block has at most 256 ticks.
 const MOST_TICKS: usize = 256;
 
+// A line has at most 65,536 bytes, with its line feed.
+const LONGEST_LINE: usize = 65536;
+
 // Why a block ends: no room for another tick, no whole line left, a control's slot and value, or a malformed line.
 pub enum Stop {
     Full,
@@ -200,6 +203,9 @@ fn setting(line: &[u8], at: usize) -> Kind
 fn said(line: &[u8], inputs: usize) -> Kind
     ensures { λ r. ⌜ r ≡ kindOf (lineSaid inputs (now (line .entry))) ⌝ }
 {
+    if line.len() >= LONGEST_LINE {
+        return Kind::Malformed;
+    }
     let first = next_word(line, 0);
     let begin = first.begin;
     let end = first.end;
