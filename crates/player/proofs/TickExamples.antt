@@ -1,10 +1,9 @@
 -- The lines of ticks, on examples.
-use Prim.Native.Nat.{ℕ}
 use mathlib.Core.Path.{_≡_, refl}
-use mathlib.Core.List.{List, [], _∷_}
+use mathlib.Core.List.{[], _∷_}
 use Rattle.word.specs.Word.{value}
 use Rattle.column.specs.Number.{digits, decimal, numeral}
-use Rattle.player.specs.Ticks.{ticksText, blockText}
+use Rattle.player.specs.Ticks.{blockText}
 
 -- two ticks of two outputs: "1 -1" and "0 12"
 two-ticks : blockText 2 2 (1 ∷ 4294967295 ∷ 0 ∷ 12 ∷ 7 ∷ []) ≡ 49 ∷ 32 ∷ 45 ∷ 49 ∷ 10 ∷ 48 ∷ 32 ∷ 49 ∷ 50 ∷ 10 ∷ []
