@@ -1,20 +1,22 @@
 -- What keeps playing inside its buffers.
 use Prim.Native.Nat.{ℕ, _+_, _-_, _*_, _≤_}
 use mathlib.Core.Path.{_≡_, ap}
-use mathlib.Core.List.{List}
+use mathlib.Core.List.{List, [], _∷_, _++_}
+use mathlib.Core.Logic.{_⊎_, inl, inr}
 use native.Mathlib.Nat.{min-le-left}
 use native.Mathlib.Omega.{arith}
-use lib.ListN.{length, take, drop, length-take}
+use lib.ListN.{length, take, drop, length-append, length-take}
 use lib.Seq.{length-take-le}
 use Rattle.word.specs.Tick.{Words}
+use Rattle.column.specs.Line.{lineFeed}
 use Rattle.flat.proofs.Decoded.{code-header}
 use Rattle.translator.specs.declared.TranslateAnswer.{TranslateAnswer}
 use Rattle.translator.specs.declared.TranslateAnswer.the-variants.{Numbers}
 use Rattle.translator.specs.Translate.{answerOf, Translates}
 use Rattle.translator.proofs.Delivered.{delivered-passes}
 use Rattle.listing.proofs.Tables.{is-within}
-use Rattle.player.specs.Samples.{circuitPart}
-use Rattle.player.proofs.Within.{circuit-within}
+use Rattle.player.specs.Samples.{circuitPart, samplesPart}
+use Rattle.player.proofs.Parts.{input-parts}
 use Rattle.console.specs.Coded.{Coded}
 
 pub coded : {table code : List ℕ} {a : TranslateAnswer} {code′ : List ℕ} → Translates table code a code′ → (n : ℕ) → a ≡ Numbers n → Words table → length code′ ≡ length code → (r : ℕ) → r ≡ n → Coded code′ r
@@ -33,5 +35,12 @@ pub inputs-fit : (ticks : ℕ) {n m room room′ : ℕ} → n ≡ m → room′ 
 inputs-fit ticks e l h = rw (l, ← e) h
 
 -- the circuit ends where what is held ends, at the latest
+circuit-within : (input : List ℕ) → length (circuitPart input) ≤ length input
+circuit-within input = go (input-parts input)
+  where
+    go : (circuitPart input ++ (lineFeed ∷ samplesPart input) ≡ input) ⊎ ((circuitPart input ≡ input) × (samplesPart input ≡ [])) → length (circuitPart input) ≤ length input
+    go (inl e) = omega (arith, ap length e, length-append (circuitPart input) (lineFeed ∷ samplesPart input))
+    go (inr (e, _)) = omega (arith, ap length e)
+
 pub circuit-ends : (buffer : List ℕ) {end r : ℕ} → end ≤ length buffer → r ≡ length (circuitPart (take end buffer)) → r ≤ end
 circuit-ends buffer {end} h e = omega (arith, circuit-within (take end buffer), length-take-le end buffer h)

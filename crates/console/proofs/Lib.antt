@@ -1,1 +1,3 @@
 pub mod Bounds
+pub mod Blocks
+pub mod Moves

@@ -2,11 +2,11 @@
 ghost use Prim.Native.Nat.{_≤_, _<_};
 ghost use mathlib.Core.List.{[]};
 ghost use lib.ListN.{length};
-ghost use Rattle.console.specs.Held.{Stands, Grown};
+ghost use Rattle.console.specs.Held.{Stands, Grown, Moved};
 use crate::messages::print_malformed;
 
-// What is to be played: the bytes of the buffer from `at` to `end`, whose first line has this number in the input. The input
-// may give more as long as it is open; nothing is left to do when it is over.
+// What is to be played: the bytes of the buffer from `at` to `end`, whose first line has this number in the input, modulo
+// 2^64. The input may give more as long as it is open; nothing is left to do when it is over.
 pub struct Rest {
     pub at: usize,
     pub end: usize,
@@ -27,7 +27,7 @@ pub fn read_more(from: i32, buffer: &mut [u8], end: usize) -> usize
 // The bytes from `at` to `end` go to the front; gives how many.
 fn move_front(buffer: &mut [u8], at: usize, end: usize) -> usize
     requires { ⌜ (at ≤ end) × (end ≤ length (now buffer)) ⌝ }
-    ensures { λ r. ⌜ r ≤ length (now (buffer .exit)) ⌝ }
+    ensures { λ r. ⌜ Moved (now (buffer .entry)) at end r (now (buffer .exit)) ⌝ }
 {
     let count = end - at;
     if at == 0 {

@@ -5,6 +5,7 @@ ghost use Rattle.flat.specs.Code.{inputCount};
 ghost use Rattle.flat.specs.Steps.{Header};
 ghost use Rattle.console.specs.Held.{Stands};
 ghost use Rattle.console.specs.Coded.{Coded};
+ghost use Rattle.console.specs.Block.{BlockPut};
 use crate::held::Rest;
 use crate::held::over;
 use crate::held::read_more;
@@ -74,7 +75,32 @@ fn translate_file(file: &[u8], code: &mut [u32; 10276]) -> usize
     }
 }
 
-// Runs so many ticks and prints their lines; gives whether these could be written.
+// Runs a block of ticks and puts their lines into the text; gives how many bytes these have.
+fn put_block(
+    code: &[u32],
+    ticks: usize,
+    samples: &[u32],
+    controls: &[u32],
+    cells: &mut [u32],
+    text: &mut [u8; 98304],
+) -> usize
+    requires { ⌜ Header (now code) × ((ticks ≤ 256) × (ticks * inputCount (now code) ≤ length (now samples))) ⌝ }
+    ensures { λ r. ⌜ BlockPut (now (code .entry)) ticks (now (samples .entry)) (now (controls .entry)) (now (cells .entry)) (now (text .entry)) r (now (cells .exit)) (now (text .exit)) ⌝ }
+{
+    let given = ticks * index(code[0]);
+    let mut outputs = [0u32; 8192];
+    flat::run(
+        code,
+        ticks as u32,
+        &samples[..given],
+        controls,
+        cells,
+        &mut outputs,
+    );
+    put_ticks(&outputs, ticks, index(code[1]), text)
+}
+
+// Plays a block of ticks; gives whether its lines could be written.
 fn play_ticks(
     code: &[u32],
     ticks: usize,
@@ -87,18 +113,8 @@ fn play_ticks(
     if ticks == 0 {
         return true;
     }
-    let given = ticks * index(code[0]);
-    let mut outputs = [0u32; 8192];
-    flat::run(
-        code,
-        ticks as u32,
-        &samples[..given],
-        controls,
-        cells,
-        &mut outputs,
-    );
     let mut text = [0u8; 98304];
-    let bytes = put_ticks(&outputs, ticks, index(code[1]), &mut text);
+    let bytes = put_block(code, ticks, samples, controls, cells, &mut text);
     io::write_all(1, &text[..bytes])
 }
 
@@ -149,7 +165,7 @@ fn play_block(
     }
 }
 
-// Plays block after block.
+// Plays block after block; nothing says that an input ends, so the blocks are counted.
 fn play_blocks(
     from: i32,
     code: &[u32],

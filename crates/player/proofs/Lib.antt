@@ -12,6 +12,9 @@ pub mod Reading
 pub mod Splits
 pub mod Joined
 pub mod Bounds
+pub mod Exact
+pub mod TickLines
+mod TickExamples
 pub mod Examples
 pub mod Exact
 pub mod TickLines

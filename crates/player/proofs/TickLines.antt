@@ -32,12 +32,12 @@ empty-put ws text from e h =
     let l : length (tickLine ws) ≡ 1 = ap length (empty-line ws e) in
     record { next-is = omega arith; within = omega arith; put = rw (empty-line ws e) }
 
-pub line-more : (ws : List ℕ) (j : ℕ) → j < length ws - 1 → tickLine (drop j ws) ≡ (numeral (value (getD ws j 0)) ++ (space ∷ [])) ++ tickLine (drop (j + 1) ws)
+line-more : (ws : List ℕ) (j : ℕ) → j < length ws - 1 → tickLine (drop j ws) ≡ (numeral (value (getD ws j 0)) ++ (space ∷ [])) ++ tickLine (drop (j + 1) ws)
 line-more ws j h =
     let v : ℕ = getD ws (suc j) 0 in
     rw (add-one j, drop-cons ws j 0 (omega arith), drop-cons ws (suc j) 0 (omega arith)) (sym (append-assoc (numeral (value (getD ws j 0))) (space ∷ []) (tickLine (v ∷ drop (suc (suc j)) ws))))
 
-pub line-last : (ws : List ℕ) (j : ℕ) → suc j ≡ length ws → tickLine (drop j ws) ≡ numeral (value (getD ws j 0)) ++ (lineFeed ∷ [])
+line-last : (ws : List ℕ) (j : ℕ) → suc j ≡ length ws → tickLine (drop j ws) ≡ numeral (value (getD ws j 0)) ++ (lineFeed ∷ [])
 line-last ws j e = rw (drop-cons ws j 0 (omega arith), drop-of-length-le ws {i = suc j} (omega arith))
 
 -- a line that is put up to output j
@@ -60,7 +60,7 @@ module _ (ws : List ℕ) (j : ℕ) {text₀ : List ℕ} {from : ℕ} {text : Lis
     last-put q = filling-last p (rw here q)
 
 -- at most 12 bytes an output: a numeral, and the space or line feed behind it
-pub line-room : (ws : List ℕ) → Words ws → 0 < length ws → length (tickLine ws) ≤ 12 * length ws
+line-room : (ws : List ℕ) → Words ws → 0 < length ws → length (tickLine ws) ≤ 12 * length ws
 line-room [] w h = absurd (omega arith)
 line-room (x ∷ []) (p, w) h = omega (arith, length-append (numeral (value x)) (lineFeed ∷ []), numeral-room x p)
 line-room (x ∷ (v ∷ ws)) (p, w) h =

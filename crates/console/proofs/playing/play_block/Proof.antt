@@ -1,6 +1,6 @@
 -- `console::playing::play_block` is safe: the block lies within the rest.
 use native.Mathlib.Omega.{arith}
-use Rattle.player.proofs.Within.{block-within}
+use Rattle.player.proofs.Bounds.{read-bounded}
 use Rattle.console.proofs.Bounds.{part-ends, inputs-fit}
 use borrow.Author.Needs.{needs}
 use Rattle.console.proofs.playing.play_block.Statement.{statement}
@@ -34,7 +34,7 @@ slice-aggregate-play-ticks : tie.Need-slice-aggregate-play-ticks
 slice-aggregate-play-ticks c = search needs
 
 play-ticks-requires : tie.Need-play-ticks-requires
-play-ticks-requires c κs = (c .before .before .before .before .before .before .before .before .before .before .before .before .before .before .before .pre .0, (block-within _ _ _ _ _ (c .before .before .before .before .before .read-block .ensures) .few, inputs-fit _ (c .before .before .before .before .before .before .before .index .ensures) (c .before .before .before .before .before .read-block .kept .1 .1 .0) (block-within _ _ _ _ _ (c .before .before .before .before .before .read-block .ensures) .fits)))
+play-ticks-requires c κs = (c .before .before .before .before .before .before .before .before .before .before .before .before .before .before .before .pre .0, (read-bounded _ _ _ _ _ (c .before .before .before .before .before .read-block .ensures) .few, inputs-fit _ (c .before .before .before .before .before .before .before .index .ensures) (c .before .before .before .before .before .read-block .kept .1 .1 .0) (read-bounded _ _ _ _ _ (c .before .before .before .before .before .read-block .ensures) .room)))
 
 over-requires : tie.Need-over-requires
 over-requires c κs = search needs
@@ -52,7 +52,7 @@ returns : tie.Need-returns
 returns c = search needs
 
 add-next : tie.Need-add-next
-add-next c = omega (arith, part-ends _ _ _ (c .before .before .before .before .before .before .before .before .before .before .before .before .before .before .before .before .before .before .before .before .pre .1 .order) (block-within _ _ _ _ _ (c .before .before .before .before .before .before .before .before .before .before .read-block .ensures) .inside), c .before .before .before .before .before .before .before .before .before .before .before .before .before .before .before .before .before .before .before .before .pre .1 .within)
+add-next c = omega (arith, part-ends _ _ _ (c .before .before .before .before .before .before .before .before .before .before .before .before .before .before .before .before .before .before .before .before .pre .1 .order) (read-bounded _ _ _ _ _ (c .before .before .before .before .before .before .before .before .before .before .read-block .ensures) .within), c .before .before .before .before .before .before .before .before .before .before .before .before .before .before .before .before .before .before .before .before .pre .1 .within)
 
 enum-told : tie.Need-enum-told
 enum-told c = search needs
@@ -61,7 +61,7 @@ enum-told-2 : tie.Need-enum-told-2
 enum-told-2 c = search needs
 
 read-on-requires : tie.Need-read-on-requires
-read-on-requires c κs = record { order = part-ends _ _ _ (c .before .before .before .before .before .before .before .before .before .before .before .before .before .before .before .before .before .before .before .before .before .before .before .pre .1 .order) (block-within _ _ _ _ _ (c .before .before .before .before .before .before .before .before .before .before .before .before .before .read-block .ensures) .inside); within = c .before .before .before .before .before .before .before .before .before .before .before .before .before .before .before .before .before .before .before .before .before .before .before .pre .1 .within }
+read-on-requires c κs = record { order = part-ends _ _ _ (c .before .before .before .before .before .before .before .before .before .before .before .before .before .before .before .before .before .before .before .before .before .before .before .pre .1 .order) (read-bounded _ _ _ _ _ (c .before .before .before .before .before .before .before .before .before .before .before .before .before .read-block .ensures) .within); within = c .before .before .before .before .before .before .before .before .before .before .before .before .before .before .before .before .before .before .before .before .before .before .before .pre .1 .within }
 
 enum-told-3 : tie.Need-enum-told-3
 enum-told-3 c = search needs
@@ -91,7 +91,7 @@ same-length-6 : tie.Need-same-length-6
 same-length-6 c = search needs
 
 returns-2 : tie.Need-returns-2
-returns-2 c = record { order = part-ends _ _ _ (c .before .before .before .before .before .before .before .before .before .before .before .before .before .before .before .before .before .before .before .before .before .before .pre .1 .order) (block-within _ _ _ _ _ (c .before .before .before .before .before .before .before .before .before .before .before .before .read-block .ensures) .inside); within = c .before .before .before .before .before .before .before .before .before .before .before .before .before .before .before .before .before .before .before .before .before .before .pre .1 .within }
+returns-2 c = record { order = part-ends _ _ _ (c .before .before .before .before .before .before .before .before .before .before .before .before .before .before .before .before .before .before .before .before .before .before .pre .1 .order) (read-bounded _ _ _ _ _ (c .before .before .before .before .before .before .before .before .before .before .before .before .read-block .ensures) .within); within = c .before .before .before .before .before .before .before .before .before .before .before .before .before .before .before .before .before .before .before .before .before .before .pre .1 .within }
 
 same-length-7 : tie.Need-same-length-7
 same-length-7 c = search needs
@@ -127,7 +127,7 @@ same-length-15 : tie.Need-same-length-15
 same-length-15 c = search needs
 
 returns-5 : tie.Need-returns-5
-returns-5 c = record { order = part-ends _ _ _ (c .before .before .before .before .before .before .before .before .before .before .before .before .before .before .before .before .before .before .before .before .before .before .before .before .before .before .before .before .pre .1 .order) (block-within _ _ _ _ _ (c .before .before .before .before .before .before .before .before .before .before .before .before .before .before .before .before .before .before .read-block .ensures) .inside); within = c .before .before .before .before .before .before .before .before .before .before .before .before .before .before .before .before .before .before .before .before .before .before .before .before .before .before .before .before .pre .1 .within }
+returns-5 c = record { order = part-ends _ _ _ (c .before .before .before .before .before .before .before .before .before .before .before .before .before .before .before .before .before .before .before .before .before .before .before .before .before .before .before .before .pre .1 .order) (read-bounded _ _ _ _ _ (c .before .before .before .before .before .before .before .before .before .before .before .before .before .before .before .before .before .before .read-block .ensures) .within); within = c .before .before .before .before .before .before .before .before .before .before .before .before .before .before .before .before .before .before .before .before .before .before .before .before .before .before .before .before .pre .1 .within }
 
 pub play-block-spec : {M : Type 1} → statement M
 play-block-spec =
