@@ -16,7 +16,4 @@ pub mod Exact
 pub mod TickLines
 mod TickExamples
 pub mod Examples
-pub mod Exact
-pub mod TickLines
-pub mod Within
 mod Borders
