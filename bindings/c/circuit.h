@@ -14,7 +14,9 @@
  *
  * Answers. Every function answers one uint64_t. The upper 32 bits are the refusal's number, 0 if there is none. The
  * lower 32 bits are the count that the call calls for, or the refusal's place as a 32-bit two's complement number:
- * the line or node for refusals 1 to 9, else -1. A refused call writes to no buffer.
+ * the line or node for refusals 1 to 9, else -1. A refused call writes to no buffer. Each function names its
+ * refusals in the order in which they are looked for; "the table's" are 3 to 9 as circuit_check has them.
+ * docs/FORMAT.md is the reference.
  *
  * Calls from an audio thread. The functions keep no state of their own, allocate nothing, take no lock and make no
  * system call; of the C library they call memcpy, memset and the like, which compilers call unasked. Calls on different
@@ -100,36 +102,38 @@ static inline uint32_t circuit_count(uint64_t answer) {
 
 /* Checks a table, three numbers to a node, and writes inputs, outputs, instructions and cells into the first four of
  * counts. Answers 4. The reported instructions and cells may lie above the limits.
- * Refusals: 3; then 4 to 8 node by node; then 9; then 12. */
+ * Refusals: 3; node by node 4 to 8; 9; 12. */
 uint64_t circuit_check(const int32_t *table, size_t table_numbers, uint32_t *counts, size_t counts_length);
 
 /* Reads a column file into a table. Answers with the count of nodes n; 3n numbers are written.
- * Refusals: 3, 1 and 2 line by line; then 12. CIRCUIT_FILE_BYTES + 1 bytes of a longer file decide. */
+ * Refusals: 3, 1 and 2 line by line; 12. CIRCUIT_FILE_BYTES + 1 bytes of a longer file decide. */
 uint64_t circuit_read(const uint8_t *file, size_t file_bytes, int32_t *table, size_t table_numbers);
 
 /* Writes a table as a column file. Answers with the count of bytes, 41 a node; there is no closing 0.
- * Refusals: 3; then 12. Of the table only the count of numbers is checked. */
+ * Refusals: 3; 12. Of the table only the count of numbers is checked. */
 uint64_t circuit_write(const int32_t *table, size_t table_numbers, uint8_t *file, size_t file_bytes);
 
 /* Translates a table into flat code: inputs, outputs, count of instructions, count of cells; the instructions, five
  * numbers each; the output registers. Answers with the count of numbers.
- * Refusals: those of the table as circuit_check has them, 3 to 9; then 10, 11 and 12. */
+ * Refusals: the table's; 10; 11; 12. */
 uint64_t circuit_translate(const int32_t *table, size_t table_numbers, int32_t *code, size_t code_numbers);
 
 /* Sets the first `named` cells to 0 and touches no others. Answers with `named`. A circuit starts from cells that were
- * loaded with at least its count. Refusals: 11; then 12. */
+ * loaded with at least its count.
+ * Refusals: 11; 12. */
 uint64_t circuit_load(uint32_t named, int32_t *cells, size_t cells_length);
 
 /* Walks a table for a block of ticks. `inputs` has the circuit's n inputs of each tick, tick after tick; `controls`
  * holds for the whole call; the cells, at least as many as the table's count, go on from the last call; `outputs`, at
  * least ticks x m long, takes the m outputs of each tick. Answers with the count of output samples.
- * Refusals: those of the table, 3 to 9; then 11, 14 and 12. */
+ * Refusals: the table's; 11; 14; 12. */
 uint64_t circuit_walk(const int32_t *table, size_t table_numbers, uint32_t ticks, const int32_t *inputs,
                       size_t inputs_length, const int32_t *controls, size_t controls_length, int32_t *cells,
                       size_t cells_length, int32_t *outputs, size_t outputs_length);
 
 /* Runs a flat code for a block of ticks: as circuit_walk, with n, m and the count of cells of the code's header.
- * Any numbers may be given as code. Refusals: 13, 14 and 12. */
+ * Any numbers may be given as code.
+ * Refusals: 13; 14; 12. */
 uint64_t circuit_run(const int32_t *code, size_t code_numbers, uint32_t ticks, const int32_t *inputs,
                      size_t inputs_length, const int32_t *controls, size_t controls_length, int32_t *cells,
                      size_t cells_length, int32_t *outputs, size_t outputs_length);

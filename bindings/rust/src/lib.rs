@@ -135,7 +135,7 @@ fn decoded(answer: u64) -> Result<usize, Refusal> {
 
 /// Checks a table, three numbers to a node, and reports its inputs, outputs, instructions and cells.
 ///
-/// Refusals: 3; then 4 to 8 node by node; then 9.
+/// Refusals: 3; node by node 4 to 8; 9.
 pub fn check(table: &[i32]) -> Result<Counts, Refusal> {
     let mut counts = [0; 4];
     decoded(sys::check(table, &mut counts))?;
@@ -150,28 +150,28 @@ pub fn check(table: &[i32]) -> Result<Counts, Refusal> {
 
 /// Reads a column file into a table; gives the count of nodes n, of which 3n numbers are written.
 ///
-/// Refusals: 3, 1 and 2 line by line; then 12.
+/// Refusals: 3, 1 and 2 line by line; 12.
 pub fn read(file: &[u8], table: &mut [i32]) -> Result<usize, Refusal> {
     decoded(sys::read(file, table))
 }
 
 /// Writes a table as a column file; gives the count of bytes, 41 a node.
 ///
-/// Refusals: 3; then 12. Of the table only the count of numbers is checked.
+/// Refusals: 3; 12. Of the table only the count of numbers is checked.
 pub fn write(table: &[i32], file: &mut [u8]) -> Result<usize, Refusal> {
     decoded(sys::write(table, file))
 }
 
 /// Translates a table into flat code; gives the count of numbers.
 ///
-/// Refusals: those of [`check`]; then 10, 11 and 12.
+/// Refusals: the table's; 10; 11; 12. The table's are those of [`check`].
 pub fn translate(table: &[i32], code: &mut [i32]) -> Result<usize, Refusal> {
     decoded(sys::translate(table, code))
 }
 
 /// Sets the first `named` cells to 0 and touches no others; gives `named`. A circuit starts from cells that were loaded with at least its count.
 ///
-/// Refusals: 11; then 12.
+/// Refusals: 11; 12.
 pub fn load(named: u32, cells: &mut [i32]) -> Result<usize, Refusal> {
     decoded(sys::load(named, cells))
 }
@@ -181,7 +181,7 @@ pub fn load(named: u32, cells: &mut [i32]) -> Result<usize, Refusal> {
 /// `inputs` has the circuit's inputs of each tick, tick after tick; `controls` holds for the whole call; `cells`, at
 /// least as many as the table's count, go on from the last call; `outputs` takes the outputs of each tick.
 ///
-/// Refusals: those of [`check`]; then 11, 14 and 12.
+/// Refusals: the table's; 11; 14; 12. The table's are those of [`check`].
 pub fn walk(
     table: &[i32],
     ticks: u32,
@@ -205,7 +205,7 @@ pub fn walk(
 /// Fit for an audio thread: it allocates nothing, takes no lock, makes no system call, and its time grows with the
 /// instructions and the ticks alone.
 ///
-/// Refusals: 13, 14 and 12.
+/// Refusals: 13; 14; 12.
 pub fn run(
     code: &[i32],
     ticks: u32,

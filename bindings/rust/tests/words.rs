@@ -1,5 +1,5 @@
 //! What is said of a refusal, in docs/FORMAT.md, is said in the same words in the C header, at the engine's enum and by
-//! this package; and the header's limits are this package's.
+//! this package, and so is the order of each call's refusals; and the header's limits are this package's.
 use circuit::Refusal;
 
 const FORMAT: &str = include_str!("../../../docs/FORMAT.md");
@@ -106,6 +106,42 @@ fn by_this_package() {
     for number in [0, rows().len() as u32 + 1] {
         let refusal = Refusal { number, place: -1 };
         assert_eq!(refusal.meaning(), "no refusal of the document");
+    }
+}
+
+/// The entries of the document's table of calls, each with its refusals in their order.
+fn orders() -> Vec<(String, String)> {
+    let lines = FORMAT.lines().skip_while(|line| *line != "## Calls");
+    let section = lines.skip(1).take_while(|line| !line.starts_with("## "));
+    let cells = section.filter_map(|line| line.strip_prefix("| ")?.strip_suffix(" |"));
+    let rows = cells.map(|line| line.split(" | ").collect::<Vec<_>>());
+    rows.filter(|cells| cells.len() == 5 && cells[0] != "entry")
+        .map(|cells| (cells[0].into(), cells[4].into()))
+        .collect()
+}
+
+/// The order as it is said last before the text's mention of the entry.
+fn said<'a>(text: &'a str, entry: &str) -> &'a str {
+    let (before, _) = text.split_once(entry).expect(entry);
+    let (_, order) = before.rsplit_once("Refusals: ").expect(entry);
+    order.split_once('.').expect(entry).0
+}
+
+#[test]
+fn orders_of_the_calls() {
+    let package = include_str!("../src/lib.rs");
+    assert_eq!(orders().len(), 7);
+    for (entry, order) in orders() {
+        // The exported check fills a buffer.
+        let exported = match entry.as_str() {
+            "check" => order.clone() + "; 12",
+            _ => order.clone(),
+        };
+        assert_eq!(
+            said(HEADER, &format!("uint64_t circuit_{entry}(")),
+            exported
+        );
+        assert_eq!(said(package, &format!("pub fn {entry}(")), order);
     }
 }
 
