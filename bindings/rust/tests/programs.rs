@@ -8,7 +8,7 @@ use std::io::{stderr, Write};
 use std::path::PathBuf;
 use std::process::{Command, Stdio};
 use std::thread;
-use std::time::{SystemTime, UNIX_EPOCH};
+use std::time::{Duration, SystemTime, UNIX_EPOCH};
 
 fn number(name: &str) -> Option<u64> {
     let text = env::var(name).ok()?;
@@ -41,12 +41,13 @@ fn output(program: &str, pieces: Vec<Vec<u8>>) -> String {
             )
         });
     let mut input = child.stdin.take().expect("a pipe");
-    // A program that ends early closes its input, and the rest is not taken.
+    // A pause, so that each piece is a read of its own. A program that ends early closes its input, and the rest is not taken.
     let writer = thread::spawn(move || {
         for piece in pieces {
             if input.write_all(&piece).is_err() {
                 return;
             }
+            thread::sleep(Duration::from_millis(3));
         }
     });
     let output = child.wait_with_output().expect("the program's output");
@@ -54,17 +55,17 @@ fn output(program: &str, pieces: Vec<Vec<u8>>) -> String {
     String::from_utf8(output.stdout).expect("text")
 }
 
-/// The input whole, or cut into pieces.
+/// The input whole, or cut into a few pieces.
 fn pieces(random: &mut Random, input: &[u8]) -> Vec<Vec<u8>> {
-    let longest = random.pick(&[1, 7, 100, 5000, usize::MAX]);
     let mut rest = input;
     let mut pieces = Vec::new();
-    while !rest.is_empty() {
-        let length = 1 + random.below(longest.min(rest.len()));
-        let (piece, behind) = rest.split_at(length);
+    let cuts = random.pick(&[0, 0, 0, 0, 1, 2, 5]);
+    for _ in 0..cuts {
+        let (piece, behind) = rest.split_at(random.below(rest.len() + 1));
         pieces.push(piece.to_vec());
         rest = behind;
     }
+    pieces.push(rest.to_vec());
     pieces
 }
 
@@ -93,5 +94,16 @@ fn translate_fresh_cases() {
         let (_, input) = file(&mut random);
         let got = output("translate", pieces(&mut random, &input));
         compare("translate", &input, translated(&input), got);
+    }
+}
+
+/// 512 lines, the empty line behind them, and samples, cut about the empty line.
+#[test]
+fn play_cut_at_the_limit() {
+    let input = include_bytes!("../../../crates/play_runs/data/lines_512");
+    for at in 20990..=20996 {
+        let (piece, behind) = input.split_at(at);
+        let got = output("play", vec![piece.to_vec(), behind.to_vec()]);
+        compare("play", input, played(input), got);
     }
 }
