@@ -7,7 +7,7 @@ use crate::meaning::Meaning;
 use crate::scene::row;
 use crate::script::{expected, Command};
 
-/// "a line too long for the buffer of 65,536 bytes", its line feed included
+/// "one of more than 65,536 bytes with its line feed"
 const BUFFER: usize = 65536;
 
 /// The circuit of a file: lines, table, 10, 11. A refusal 9 is to have one place only.
