@@ -43,7 +43,7 @@ effect v s cs = record { value = v; skip = s; cells = cs }
 
 -- The table of codes, over registers ρ and cells cs, for an instruction that is not skipped:
 -- 1 "number", 2 "control", 3 "operation; a one-input op has 0 for the last", 4 "delay", 5 "read", 6 "write",
--- 7 "skips the next instructions, count many, unless the register is 1"; "codes 6 and 7 write 0".
+-- 7 "skips the next instructions, count many, unless the register" is a demand, since E1 any number but 0; "codes 6 and 7 write 0".
 unfoldable pub worked : List ℕ → Instruction → List ℕ → List ℕ → Effect
 worked controls x ρ cs =
     let reg : ℕ → ℕ = λ r. getD ρ r 0 in

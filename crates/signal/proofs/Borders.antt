@@ -76,12 +76,12 @@ module _ (xs controls : Beam) where
 abbrev last : Sample
 last =
     record {
-      table = 5 ∷ 0 ∷ 0 ∷ 12 ∷ 0 ∷ 0 ∷ [];
-      inputs = (2 ∷ 10 ∷ []) ∷ (2 ∷ 11 ∷ []) ∷ (2 ∷ 12 ∷ []) ∷ [];
-      outputs = (0 ∷ []) ∷ (0 ∷ []) ∷ (0 ∷ []) ∷ [];
+      table = 3 ∷ 2 ∷ 0 ∷ 5 ∷ 0 ∷ 0 ∷ 8 ∷ 0 ∷ 1 ∷ 3 ∷ 1 ∷ 0 ∷ 5 ∷ 0 ∷ 0 ∷ 11 ∷ 3 ∷ 4 ∷ 12 ∷ 5 ∷ 0 ∷ 7 ∷ 2 ∷ 6 ∷ [];
+      inputs = (5 ∷ 3 ∷ 5 ∷ []) ∷ (4 ∷ 4 ∷ 6 ∷ []) ∷ (4 ∷ 7 ∷ 7 ∷ []) ∷ (2 ∷ 2 ∷ 8 ∷ []) ∷ (0 ∷ 2 ^ 31 ∷ 9 ∷ []) ∷ [];
+      outputs = (5 ∷ []) ∷ (5 ∷ []) ∷ (12 ∷ []) ∷ (12 ∷ []) ∷ (21 ∷ []) ∷ [];
     }
 
-last-right : meaning last ≡ (0 ∷ []) ∷ (0 ∷ []) ∷ (0 ∷ []) ∷ []
+last-right : meaning last ≡ (5 ∷ []) ∷ (5 ∷ []) ∷ (12 ∷ []) ∷ (12 ∷ []) ∷ (21 ∷ []) ∷ []
 unfolding benchSamples
 last-right =
-    samples-right last (List·Memᴰ·tail (List·Memᴰ·tail (List·Memᴰ·tail (List·Memᴰ·tail (List·Memᴰ·tail (List·Memᴰ·tail (List·Memᴰ·tail (List·Memᴰ·tail (List·Memᴰ·tail (List·Memᴰ·head refl))))))))))
+    samples-right last (List·Memᴰ·tail (List·Memᴰ·tail (List·Memᴰ·tail (List·Memᴰ·tail (List·Memᴰ·tail (List·Memᴰ·tail (List·Memᴰ·tail (List·Memᴰ·tail (List·Memᴰ·tail (List·Memᴰ·tail (List·Memᴰ·tail (List·Memᴰ·head refl))))))))))))

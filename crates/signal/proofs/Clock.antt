@@ -60,7 +60,7 @@ module _ (n : ℕ) (h₁ k : Clock) (x u : ℕ → Beam) where
   abbrev combined : Clock
   combined = down n h₁ k ⊗ h₁
 
-  -- "for a request to reach P it is necessary to have" both clocks at 1: outside h₁, the inner one is k at the same tick
+  -- "for a request to reach P it is necessary to have" a demand of both clocks: outside h₁, the inner one is k at the same tick
   reaches : (t : ℕ) → t < n → demand (combined t) ≡ demand (h₁ t) and demand (k t)
   reaches t l = demand-product (h₁ t) (up 0 h₁ (down n h₁ k) t) ∙ go (demand (h₁ t)) refl
     where

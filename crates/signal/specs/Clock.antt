@@ -26,7 +26,8 @@ unfoldable pub least : (ℕ → Bool) → ℕ → ℕ
 least p zero = 0
 least p (suc n) = pick (ltb (least p n) n) (least p n) (pick (p n) n (suc n))
 
--- "h*(0) = min{t'|(h(t') = 1)}, h*(t) = min{t'|(h(t') = 1) ∧ (t' > h*(t-1))}" (§3.1), among the first n ticks
+-- "h*(0) = min{t'|(h(t') = 1)}, h*(t) = min{t'|(h(t') = 1) ∧ (t' > h*(t-1))}" (§3.1), among the first n ticks. A demand stands for "= 1": since E1
+-- it is any clock but 0.
 unfoldable pub star : ℕ → Clock → ℕ → ℕ
 unfolding least
 star n h zero = least (λ t′. demand (h t′)) n
@@ -37,7 +38,8 @@ unfoldable pub demandsBefore : Clock → ℕ → ℕ
 demandsBefore h zero = 0
 demandsBefore h (suc t) = demandsBefore h t + bit (demand (h t))
 
--- "h+(t) = (Σ h(i)) - 1", i from 0 to t: "another signal h+ that counts the number of demands" (§3.1), so the sum is taken as their count
+-- "h+(t) = (Σ h(i)) - 1", i from 0 to t: "another signal h+ that counts the number of demands" (§3.1), so the sum is taken as their count, whatever
+-- numbers the demands are
 unfoldable pub plus : Clock → ℕ → ℤ
 plus h t = pos (demandsBefore h (suc t)) -ℤ pos 1
 
@@ -50,7 +52,8 @@ abbrev pub up : {A : Type 0} → A → Clock → (ℕ → A) → ℕ → A
 up nought h x t = at nought x (plus h t)
 
 -- "(h0 ⊗ h1)(t) = h1(t) * h0(h1+(t))" and "(h0 ⊗ h1) = h1 * (h0 ↑ h1)" (§4.5). The text above them has "h0(h1+(t)-1)"; the
--- formula is taken, since h+ has its 1 subtracted already.
+-- formula is taken, since h+ has its 1 subtracted already. The product is one of natural numbers and does not wrap: it is a demand exactly where both
+-- factors are, also where they are 65536 and its low 32 bits are 0.
 infixl 7 _⊗_
 abbrev pub _⊗_ : Clock → Clock → Clock
 _⊗_ h₀ h₁ t = h₁ t * up 0 h₁ h₀ t

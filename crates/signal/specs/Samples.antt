@@ -78,10 +78,18 @@ benchSamples =
     ∷ sample (5 ∷ 0 ∷ 0 ∷ 12 ∷ 0 ∷ 0 ∷ 12 ∷ 1 ∷ 0 ∷ [])
     (three (1 ∷ 1 ∷ 0 ∷ 1 ∷ []) (1 ∷ 0 ∷ 1 ∷ 1 ∷ []) (1 ∷ 2 ∷ 3 ∷ 4 ∷ []))
     (one (1 ∷ 1 ∷ 1 ∷ 4 ∷ []))
-    -- an ondemand cable, its clock 2 throughout
+    -- an ondemand cable, its clock 2 throughout: "repeats its input at every tick" (E1)
     ∷ sample (5 ∷ 0 ∷ 0 ∷ 12 ∷ 0 ∷ 0 ∷ [])
     (two (2 ∷ 2 ∷ 2 ∷ []) (10 ∷ 11 ∷ 12 ∷ []))
-    (one (0 ∷ 0 ∷ 0 ∷ []))
+    (one (10 ∷ 11 ∷ 12 ∷ []))
+    -- an ondemand cable, its clock 3 0 -1 0 2147483647 -2147483648
+    ∷ sample (5 ∷ 0 ∷ 0 ∷ 12 ∷ 0 ∷ 0 ∷ [])
+    (two (3 ∷ 0 ∷ minus 1 ∷ 0 ∷ 2147483647 ∷ minus 2147483648 ∷ []) (10 ∷ 11 ∷ 12 ∷ 13 ∷ 14 ∷ 15 ∷ []))
+    (one (10 ∷ 10 ∷ 12 ∷ 12 ∷ 14 ∷ 15 ∷ []))
+    -- an ondemand integrator, its clock the difference of two inputs: 2 0 -3 0 -2147483648
+    ∷ sample (3 ∷ 2 ∷ 0 ∷ 5 ∷ 0 ∷ 0 ∷ 8 ∷ 0 ∷ 1 ∷ 3 ∷ 1 ∷ 0 ∷ 5 ∷ 0 ∷ 0 ∷ 11 ∷ 3 ∷ 4 ∷ 12 ∷ 5 ∷ 0 ∷ 7 ∷ 2 ∷ 6 ∷ [])
+    (three (5 ∷ 4 ∷ 4 ∷ 2 ∷ 0 ∷ []) (3 ∷ 4 ∷ 7 ∷ 2 ∷ minus 2147483648 ∷ []) (5 ∷ 6 ∷ 7 ∷ 8 ∷ 9 ∷ []))
+    (one (5 ∷ 5 ∷ 12 ∷ 12 ∷ 21 ∷ []))
     ∷ []
 
 -- "The P samples are proved from the meaning through one shared table and theorem."

@@ -1,6 +1,6 @@
 -- The operations of the document's table on words, through their signed reading; how many inputs each has; the demand.
 use Prim.Native.Nat.{ℕ}
-use mathlib.Core.Bool.{Bool}
+use mathlib.Core.Bool.{Bool, not}
 use mathlib.Core.List.{List, [], _∷_}
 use lib.Dec.{eqb}
 use lib.IntN.{pos, negℤ, natAbs, _+ℤ_, _-ℤ_, _*ℤ_}
@@ -61,6 +61,6 @@ operandTable = 0 ∷ 2 ∷ 2 ∷ 2 ∷ 2 ∷ 2 ∷ 2 ∷ 2 ∷ 1 ∷ 1 ∷ []
 unfoldable pub operands : ℕ → ℕ
 operands op = getD operandTable op 0
 
--- "A tick is a demand when the clock is 1; every other value is none."
+-- E1: "A tick is now a demand when the clock isn't 0."
 unfoldable pub demand : ℕ → Bool
-demand clock = eqb clock 1
+demand clock = not (eqb clock 0)

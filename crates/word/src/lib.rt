@@ -119,7 +119,7 @@ pub fn operands(op: u32) -> u32
 pub fn demand(clock: u32) -> bool
     ensures { λ r. ⌜ r ≡ demandOf clock ⌝ }
 {
-    clock == 1
+    clock != 0
 }
 
 // A word as an index.
