@@ -56,7 +56,7 @@ static void tick(const struct instruction *x, const struct instruction *end, con
         case WRITE: cells[x->a] = r[x->b]; *own = 0; break;
         case SKIP:
             *own = 0;
-            if (r[x->a] != 1) {
+            if (r[x->a] == 0) {
                 memset(own + 1, 0, x->b * sizeof *own);
                 own += x->b;
                 x += x->b;

@@ -115,7 +115,7 @@ fn tick(
                 0
             }
             Skip(a, count) => {
-                if r[a] != 1 {
+                if r[a] == 0 {
                     r[own + 1..=own + count].fill(0);
                     i += count;
                 }

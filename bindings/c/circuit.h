@@ -22,10 +22,10 @@
  * system call; of the C library they call memcpy, memset and the like, which compilers call unasked. Calls on different
  * buffers may run at the same time. circuit_run does not recurse: it checks the code once a call, then works each
  * instruction at most once a tick, so that its time grows with the instructions, and with the ticks times the sum of
- * instructions, inputs and outputs, and with nothing else. Samples decide which bodies of an ondemand are skipped, which
- * is less work, and which case of a delay, a quotient or a remainder is taken, a few machine instructions. Before the
- * first call that must be in time make one on the same buffers: memory is provided when it is first touched, and the
- * dynamic linker looks memset up at the first call.
+ * instructions, inputs and outputs, and with nothing else. Samples decide which bodies of an ondemand are skipped, those
+ * whose clock is 0, which is less work, and which case of a delay, a quotient or a remainder is taken, a few machine
+ * instructions. Before the first call that must be in time make one on the same buffers: memory is provided when it is
+ * first touched, and the dynamic linker looks memset up at the first call.
  */
 #ifndef CIRCUIT_H
 #define CIRCUIT_H
