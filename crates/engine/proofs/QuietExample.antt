@@ -1,5 +1,5 @@
--- Demand 3 at ticks without demand: an ondemand cable with the clock 0 1 0 and the input 5 7 9, in one run. It gives 0 7 7.
-use Prim.Native.Nat.{ℕ}
+-- Demand 3 at ticks without demand: an ondemand cable with the clock 0 -1 0 and the input 5 7 9, in one run. It gives 0 7 7.
+use Prim.Native.Nat.{ℕ, _-_, _^_}
 use mathlib.Core.Path.{_≡_, refl, ap, _∙_}
 use mathlib.Core.Logic.{inl}
 use mathlib.Core.List.{List, [], _∷_}
@@ -26,7 +26,7 @@ abbrev program : Program
 program = runOf (translated ondemandCable)
 
 abbrev run : Arguments
-run = record { ticks = 3; inputs = 0 ∷ 5 ∷ 1 ∷ 7 ∷ 0 ∷ 9 ∷ []; controls = zeros 16; outputs = zeros 3; lent = 1 }
+run = record { ticks = 3; inputs = 0 ∷ 5 ∷ (2 ^ 32 - 1) ∷ 7 ∷ 0 ∷ 9 ∷ []; controls = zeros 16; outputs = zeros 3; lent = 1 }
 
 abbrev block : List ℕ
 block = loaded 1 (3 ∷ []) .buffer
@@ -58,9 +58,9 @@ after-1 : history program 0 2 [] block (cut 1) ≡ ticked 0 5 ∷ []
 unfolding ins tree ticked
 after-1 = tick-by-tick .next 0 (omega arith) ∙ ap (λ (h : History). ticked 0 5 ∷ h) after-0
 
-after-2 : history program 0 2 [] block (cut 2) ≡ ticked 1 7 ∷ ticked 0 5 ∷ []
+after-2 : history program 0 2 [] block (cut 2) ≡ ticked (2 ^ 32 - 1) 7 ∷ ticked 0 5 ∷ []
 unfolding ins tree ticked
-after-2 = tick-by-tick .next 1 (omega arith) ∙ ap (λ (h : History). ticked 1 7 ∷ h) after-1
+after-2 = tick-by-tick .next 1 (omega arith) ∙ ap (λ (h : History). ticked (2 ^ 32 - 1) 7 ∷ h) after-1
 
 abbrev QuietAt : ℕ → ℕ → Type 0
 QuietAt j k = Quiet (nodes ondemandCable) (circuit ondemandCable) program 0 [] block (cut j) (cut k) 1 (leaf 0 cable)
