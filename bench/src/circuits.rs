@@ -120,10 +120,10 @@ pub fn nest(clock: u32) -> Circuit {
     for _ in 0..8 {
         body = b.ondemand(body);
     }
-    let name = if clock == 1 {
-        "8 ondemands, busy"
-    } else {
+    let name = if clock == 0 {
         "8 ondemands, idle"
+    } else {
+        "8 ondemands, busy"
     };
     circuit(name, b.table, 8, clock)
 }
