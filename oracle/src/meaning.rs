@@ -116,14 +116,14 @@ impl Meaning {
     }
 
     /// h+(tick): the number of the latest demand, -1 before the first.
-    /// "A tick is a demand when the clock is 1; every other value is none."
+    /// E1: "A tick is now a demand when the clock isn't 0".
     fn plus(&mut self, time: Time, tick: i64) -> i64 {
         if tick < 0 {
             return -1;
         }
         while self.count[time].len() as i64 <= tick {
             let at = self.count[time].len();
-            let demand = self.value(self.graph.demands[time].clock, at as i64) == 1;
+            let demand = self.value(self.graph.demands[time].clock, at as i64) != 0;
             if demand {
                 self.star[time].push(at);
             }
