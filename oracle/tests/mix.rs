@@ -5,7 +5,7 @@ use oracle::column::parse;
 use oracle::generate::generate;
 use oracle::graph::Signal;
 use oracle::meaning::Meaning;
-use oracle::script::{expected, render, Command, PIECE};
+use oracle::script::{expected, plays_in_pieces, render, Command};
 
 #[test]
 fn refusals() {
@@ -124,25 +124,6 @@ fn kinds() {
     assert!(often.iter().all(|&times| times >= 100), "{often:?}");
     assert!(seen.bodies_with_demands > seen.bodies_without);
     assert!(2 * seen.changing_outputs > seen.long_blocks);
-}
-
-/// Takes the script line by line, and a file's bytes at once, each within one piece.
-fn plays_in_pieces(script: &[u8]) -> bool {
-    let mut at = 0;
-    while at < script.len() {
-        let feed = script[at..].iter().position(|&byte| byte == b'\n');
-        let line = &script[at..at + feed.expect("a line feed")];
-        let line = std::str::from_utf8(line).expect("ASCII");
-        let bytes = line
-            .strip_prefix("file ")
-            .map_or(0, |n| n.parse().expect("a count"));
-        let end = at + line.len() + 1 + bytes;
-        if at / PIECE != (end - 1) / PIECE {
-            return false;
-        }
-        at = end;
-    }
-    true
 }
 
 /// A case does not depend on earlier ones.
