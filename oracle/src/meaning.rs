@@ -2,7 +2,7 @@
 //! history, and the cells by the document's closed formulas. No cell is read to get a sample.
 
 use crate::arity::{check, Checked};
-use crate::graph::{Graph, Id, Memory, Signal, Time};
+use crate::graph::{Demand, Graph, Id, Memory, Signal, Time};
 use crate::samples::{amount, operate};
 
 pub struct Meaning {
@@ -68,6 +68,14 @@ impl Meaning {
         }
         let outer = self.own_ticks(self.graph.demands[time].parent) as i64;
         (self.plus(time, outer - 1) + 1) as usize
+    }
+
+    /// A body's clock at the own ticks of its ondemand.
+    pub fn clock(&mut self, body: Time) -> &[i32] {
+        let Demand { parent, clock } = self.graph.demands[body];
+        let ticks = self.own_ticks(parent);
+        self.value(clock, ticks as i64 - 1);
+        &self.values[clock][..ticks]
     }
 
     /// "Every signal is 0 before tick 0, constants and controls too."

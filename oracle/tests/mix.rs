@@ -25,6 +25,11 @@ struct Seen {
     kinds: [usize; 13],
     bodies_with_demands: usize,
     bodies_without: usize,
+    /// Bodies whose clock is, at an own tick of the ondemand, neither 0 nor 1.
+    other_clocks: usize,
+    negative_clocks: usize,
+    /// Bodies whose ondemand has own ticks with a demand and without.
+    changing_clocks: usize,
     nested_with_demands: usize,
     twice_nested_with_demands: usize,
     feedback_in_bodies: usize,
@@ -72,6 +77,11 @@ impl Seen {
     fn bodies(&mut self, meaning: &mut Meaning) {
         let graph = meaning.graph().clone();
         for time in 1..graph.demands.len() {
+            let clock = meaning.clock(time);
+            let idle = clock.contains(&0);
+            self.other_clocks += usize::from(clock.iter().any(|h| !matches!(h, 0 | 1)));
+            self.negative_clocks += usize::from(clock.iter().any(|&h| h < 0));
+            self.changing_clocks += usize::from(idle && clock.iter().any(|&h| h != 0));
             if meaning.own_ticks(time) == 0 {
                 self.bodies_without += 1;
                 continue;
@@ -124,6 +134,10 @@ fn kinds() {
     assert!(often.iter().all(|&times| times >= 100), "{often:?}");
     assert!(seen.bodies_with_demands > seen.bodies_without);
     assert!(2 * seen.changing_outputs > seen.long_blocks);
+    let bodies = seen.bodies_with_demands + seen.bodies_without;
+    assert!(3 * seen.other_clocks >= bodies);
+    assert!(5 * seen.negative_clocks >= bodies);
+    assert!(5 * seen.changing_clocks >= bodies);
 }
 
 /// A case does not depend on earlier ones.
