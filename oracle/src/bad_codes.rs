@@ -59,7 +59,7 @@ fn run(random: &mut Random, near: &Circuit, code: Vec<u32>, case: &mut Vec<Comma
     let (given, lent, out) = match head {
         Ok(counts) => {
             let given = (0..ticks * counts.inputs as usize)
-                .map(|_| often(random, &[1, 1, 1, 0, 2]))
+                .map(|_| often(random, &[1, 1, 0, 0, 2, -1]))
                 .collect();
             let out = ticks * counts.outputs as usize;
             (given, counts.cells as usize, out)
@@ -200,7 +200,7 @@ fn random_instruction(random: &mut Random, own: usize, left: usize, cells: usize
         6 | 7 if own > 0 && cells > 0 => [6, cell(random), register(random), 0, 0],
         8 | 9 if own > 0 => [7, register(random), random.below(left + 1) as u32, 0, 0],
         10 => [2, random.below(16) as u32, 0, 0, 0],
-        _ => [1, often(random, &[0, 1, 1, 2]), 0, 0, 0],
+        _ => [1, often(random, &[0, 1, 2, -1]), 0, 0, 0],
     }
 }
 

@@ -1,6 +1,7 @@
 //! Random circuits: trees built for wanted inputs and outputs, then numbered in a random
 //! legal order.
 
+use crate::clocks::clock;
 use crate::random::Random;
 
 pub struct Tree {
@@ -245,31 +246,6 @@ fn demanded(random: &mut Random, inputs: usize, outputs: usize, size: usize) -> 
     let others = build(random, rest, wires, if wires == rest { 1 } else { left });
     let body = ondemand(build(random, wires, outputs, right));
     pair(7, pair(8, tick, others), body)
-}
-
-/// A clock that is 1 now and then, from none, one or two inputs.
-fn clock(random: &mut Random, inputs: usize) -> Tree {
-    let compare = leaf(3, if random.percent(70) { 6 } else { 7 });
-    match (inputs, random.below(4)) {
-        (0, 0) => leaf(1, 1),
-        (0, 1) => leaf(2, random.within(0, 15)),
-        // 1 0 1 0 ...: 1 minus the tick before.
-        (0, 2) => {
-            let minus = pair(7, pair(8, leaf(1, 1), cable()), leaf(3, 2));
-            pair(11, minus, cable())
-        }
-        // 1 2 3 ... remainder k: one demand in k ticks.
-        (0, _) => {
-            let up = pair(7, pair(8, leaf(1, 1), cable()), leaf(3, 1));
-            let by = leaf(1, random.within(2, 4));
-            let counter = pair(11, up, cable());
-            pair(7, pair(8, counter, by), leaf(3, 5))
-        }
-        (1, 0) => cable(),
-        // Less than a small number or equal to it.
-        (1, _) => pair(7, pair(8, cable(), leaf(1, random.within(1, 6))), compare),
-        _ => compare,
-    }
 }
 
 /// The table of a tree: children before their parents, the root last, otherwise any order.

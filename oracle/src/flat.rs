@@ -108,8 +108,9 @@ fn step(
             cells[a] = registers[b];
             0
         }
+        // E1: "a demand when the clock isn't 0", "the skip instruction" too
         _ => {
-            return if registers[a] == 1 { 0 } else { b };
+            return if registers[a] == 0 { b } else { 0 };
         }
     };
     0

@@ -4,39 +4,51 @@ use crate::arity::check;
 use crate::bad_codes::refused_code;
 use crate::bad_tables::damaged;
 use crate::circuits::{build, ondemand, sample, table};
+use crate::clocks;
 use crate::engine::Counts;
 use crate::graph::{Graph, Signal};
 use crate::random::Random;
 use crate::script::Command;
 use crate::translate::code;
 
+/// What an input or a control is to the clocks of a circuit.
+#[derive(Clone, Copy)]
+enum Role {
+    None,
+    Clock,
+    /// A side of a difference or a product that is a clock.
+    Side,
+}
+
 /// An accepted table and what a case needs to know of it.
 pub struct Circuit {
     pub table: Vec<u32>,
     pub counts: Counts,
-    /// Inputs and controls that are some body's clock.
-    pub clock_inputs: Vec<bool>,
-    pub clock_controls: Vec<bool>,
+    inputs: [Role; 32],
+    controls: [Role; 16],
 }
 
 impl Circuit {
     pub fn of(table: Vec<u32>) -> Option<Circuit> {
         let checked = check(&table).ok()?;
         let graph = Graph::of(&table, &checked);
-        let mut clock_inputs = vec![false; 32];
-        let mut clock_controls = vec![false; 16];
-        for clock in graph.clocks() {
-            match clock {
-                Signal::Input(j) => clock_inputs[*j] = true,
-                Signal::Control(slot) => clock_controls[*slot] = true,
-                _ => {}
+        let (mut inputs, mut controls) = ([Role::None; 32], [Role::None; 16]);
+        let mut note = |signals: Vec<&Signal>, role| {
+            for signal in signals {
+                match *signal {
+                    Signal::Input(j) => inputs[j] = role,
+                    Signal::Control(slot) => controls[slot] = role,
+                    _ => {}
+                }
             }
-        }
+        };
+        note(graph.sides(), Role::Side);
+        note(graph.clocks(), Role::Clock);
         Some(Circuit {
             table,
             counts: checked.counts,
-            clock_inputs,
-            clock_controls,
+            inputs,
+            controls,
         })
     }
 
@@ -73,32 +85,35 @@ pub fn usual_size(random: &mut Random) -> usize {
     }
 }
 
-/// A value of a clock: "a demand when the clock is 1; every other value is none".
-fn clock_value(random: &mut Random) -> u32 {
-    random.pick(&[1, 1, 1, 1, 1, 1, 0, 0, 0, 2, -1i32]) as u32
-}
-
 pub fn controls(random: &mut Random, circuit: &Circuit) -> Vec<u32> {
     let quiet = random.percent(50);
-    (0..16)
-        .map(|slot| match circuit.clock_controls[slot] {
-            true => clock_value(random),
-            false if quiet => 3,
-            false => sample(random) as u32,
-        })
+    let near = clocks::near(random);
+    let value = |role: &Role| match role {
+        Role::Clock => clocks::value(random),
+        Role::Side => random.pick(&near),
+        Role::None if quiet => 3,
+        Role::None => sample(random),
+    };
+    circuit
+        .controls
+        .iter()
+        .map(value)
+        .map(|v| v as u32)
         .collect()
 }
 
 pub fn inputs(random: &mut Random, circuit: &Circuit, ticks: usize) -> Vec<u32> {
-    let n = circuit.counts.inputs as usize;
+    let roles = &circuit.inputs[..circuit.counts.inputs as usize];
     let plain = random.percent(60);
-    (0..ticks * n)
-        .map(|at| match circuit.clock_inputs[at % n] {
-            true => clock_value(random),
-            false if plain => random.within(0, 9) as u32,
-            false => sample(random) as u32,
-        })
-        .collect()
+    let near = clocks::near(random);
+    let value = |role: &Role| match role {
+        Role::Clock => clocks::value(random),
+        Role::Side => random.pick(&near),
+        Role::None if plain => random.within(0, 9),
+        Role::None => sample(random),
+    };
+    let roles = std::iter::repeat_n(roles, ticks).flatten();
+    roles.map(value).map(|v| v as u32).collect()
 }
 
 fn ticks(random: &mut Random) -> usize {

@@ -191,18 +191,28 @@ impl Graph {
         outs
     }
 
-    /// The signal behind a body's clock, without the ↓ between: a generator likes to know
-    /// which inputs and controls are clocks.
-    pub fn clocks(&self) -> Vec<&Signal> {
-        let mut found = Vec::new();
-        for demand in &self.demands[1..] {
-            let mut at = demand.clock;
-            while let Signal::Down(outer) = self.signals[at].0 {
-                at = outer;
-            }
-            found.push(&self.signals[at].0);
+    /// A signal as it is outside all bodies, without the ↓ between.
+    fn outside(&self, mut at: Id) -> &Signal {
+        while let Signal::Down(outer) = self.signals[at].0 {
+            at = outer;
         }
-        found
+        &self.signals[at].0
+    }
+
+    /// The signals that are bodies' clocks: a generator likes to know which inputs and controls
+    /// are.
+    pub fn clocks(&self) -> Vec<&Signal> {
+        let demands = self.demands[1..].iter();
+        demands.map(|demand| self.outside(demand.clock)).collect()
+    }
+
+    /// The two sides of the differences and products among the clocks.
+    pub fn sides(&self) -> Vec<&Signal> {
+        let sides = |clock: &Signal| match *clock {
+            Signal::Operation(2 | 3, x, y) => vec![self.outside(x), self.outside(y)],
+            _ => vec![],
+        };
+        self.clocks().into_iter().flat_map(sides).collect()
     }
 }
 

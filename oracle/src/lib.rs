@@ -6,6 +6,7 @@ pub mod bad_codes;
 pub mod bad_files;
 pub mod bad_tables;
 pub mod circuits;
+pub mod clocks;
 pub mod column;
 pub mod engine;
 pub mod entries;

@@ -3,6 +3,7 @@
 
 use crate::bad_tables::{too_wide, wide};
 use crate::circuits::{beside, cable, leaf, ondemand, pair, table, Tree};
+use crate::clocks::demand;
 use crate::column::text;
 use crate::good_cases::Circuit;
 use crate::random::Random;
@@ -38,11 +39,15 @@ fn wires(random: &mut Random) -> Vec<Command> {
     case
 }
 
-/// Load, and a block of so many ticks with ones and small numbers, walked.
+/// Load, and a block of so many ticks, walked; one number in 50 is a clock without demand.
 fn call(random: &mut Random, circuit: &Circuit, ticks: usize) -> Vec<Command> {
     let counts = circuit.counts;
     let given = (0..ticks * counts.inputs as usize)
-        .map(|_| if random.percent(2) { 5 } else { 1 })
+        .map(|_| match random.below(50) {
+            0 => 0,
+            1..=20 => 1,
+            _ => demand(random) as u32,
+        })
         .collect();
     let cells = counts.cells as usize;
     let lent = cells.min(17000);
@@ -199,8 +204,8 @@ pub fn nodes_case(random: &mut Random, beyond: bool) -> Vec<Command> {
         Command::Check,
         Command::Write(random.below(60)),
         Command::Load(1, 1),
-        Command::Inputs(vec![0, 4, 1, 5, 2, 6]),
+        Command::Inputs(vec![0, 4, 2, 5, 0, 6, u32::MAX, 7]),
         Command::Controls(vec![0; 16]),
-        Command::Walk(3, 1, 3),
+        Command::Walk(4, 1, 4),
     ]
 }

@@ -2,7 +2,7 @@
 //! history, and the cells by the document's closed formulas. No cell is read to get a sample.
 
 use crate::arity::{check, Checked};
-use crate::graph::{Graph, Id, Memory, Signal, Time};
+use crate::graph::{Demand, Graph, Id, Memory, Signal, Time};
 use crate::samples::{amount, operate};
 
 pub struct Meaning {
@@ -70,6 +70,14 @@ impl Meaning {
         (self.plus(time, outer - 1) + 1) as usize
     }
 
+    /// A body's clock at the own ticks of its ondemand.
+    pub fn clock(&mut self, body: Time) -> &[i32] {
+        let Demand { parent, clock } = self.graph.demands[body];
+        let ticks = self.own_ticks(parent);
+        self.value(clock, ticks as i64 - 1);
+        &self.values[clock][..ticks]
+    }
+
     /// "Every signal is 0 before tick 0, constants and controls too."
     fn value(&mut self, id: Id, tick: i64) -> i32 {
         if tick < 0 {
@@ -116,14 +124,14 @@ impl Meaning {
     }
 
     /// h+(tick): the number of the latest demand, -1 before the first.
-    /// "A tick is a demand when the clock is 1; every other value is none."
+    /// E1: "A tick is now a demand when the clock isn't 0".
     fn plus(&mut self, time: Time, tick: i64) -> i64 {
         if tick < 0 {
             return -1;
         }
         while self.count[time].len() as i64 <= tick {
             let at = self.count[time].len();
-            let demand = self.value(self.graph.demands[time].clock, at as i64) == 1;
+            let demand = self.value(self.graph.demands[time].clock, at as i64) != 0;
             if demand {
                 self.star[time].push(at);
             }

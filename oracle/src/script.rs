@@ -101,3 +101,22 @@ fn render_one(command: &Command) -> Vec<u8> {
     }
     text
 }
+
+/// Whether each line of a script, and a file's line and bytes at once, lie within one piece.
+pub fn plays_in_pieces(script: &[u8]) -> bool {
+    let mut at = 0;
+    while at < script.len() {
+        let feed = script[at..].iter().position(|&byte| byte == b'\n');
+        let line = &script[at..at + feed.expect("a line feed")];
+        let line = std::str::from_utf8(line).expect("ASCII");
+        let bytes = line
+            .strip_prefix("file ")
+            .map_or(0, |n| n.parse().expect("a count"));
+        let end = at + line.len() + 1 + bytes;
+        if at / PIECE != (end - 1) / PIECE {
+            return false;
+        }
+        at = end;
+    }
+    true
+}

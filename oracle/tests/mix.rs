@@ -5,7 +5,7 @@ use oracle::column::parse;
 use oracle::generate::generate;
 use oracle::graph::Signal;
 use oracle::meaning::Meaning;
-use oracle::script::{expected, render, Command, PIECE};
+use oracle::script::{expected, plays_in_pieces, render, Command};
 
 #[test]
 fn refusals() {
@@ -25,6 +25,11 @@ struct Seen {
     kinds: [usize; 13],
     bodies_with_demands: usize,
     bodies_without: usize,
+    /// Bodies whose clock is, at an own tick of the ondemand, neither 0 nor 1.
+    other_clocks: usize,
+    negative_clocks: usize,
+    /// Bodies whose ondemand has own ticks with a demand and without.
+    changing_clocks: usize,
     nested_with_demands: usize,
     twice_nested_with_demands: usize,
     feedback_in_bodies: usize,
@@ -72,6 +77,11 @@ impl Seen {
     fn bodies(&mut self, meaning: &mut Meaning) {
         let graph = meaning.graph().clone();
         for time in 1..graph.demands.len() {
+            let clock = meaning.clock(time);
+            let idle = clock.contains(&0);
+            self.other_clocks += usize::from(clock.iter().any(|h| !matches!(h, 0 | 1)));
+            self.negative_clocks += usize::from(clock.iter().any(|&h| h < 0));
+            self.changing_clocks += usize::from(idle && clock.iter().any(|&h| h != 0));
             if meaning.own_ticks(time) == 0 {
                 self.bodies_without += 1;
                 continue;
@@ -124,25 +134,10 @@ fn kinds() {
     assert!(often.iter().all(|&times| times >= 100), "{often:?}");
     assert!(seen.bodies_with_demands > seen.bodies_without);
     assert!(2 * seen.changing_outputs > seen.long_blocks);
-}
-
-/// Takes the script line by line, and a file's bytes at once, each within one piece.
-fn plays_in_pieces(script: &[u8]) -> bool {
-    let mut at = 0;
-    while at < script.len() {
-        let feed = script[at..].iter().position(|&byte| byte == b'\n');
-        let line = &script[at..at + feed.expect("a line feed")];
-        let line = std::str::from_utf8(line).expect("ASCII");
-        let bytes = line
-            .strip_prefix("file ")
-            .map_or(0, |n| n.parse().expect("a count"));
-        let end = at + line.len() + 1 + bytes;
-        if at / PIECE != (end - 1) / PIECE {
-            return false;
-        }
-        at = end;
-    }
-    true
+    let bodies = seen.bodies_with_demands + seen.bodies_without;
+    assert!(3 * seen.other_clocks >= bodies);
+    assert!(5 * seen.negative_clocks >= bodies);
+    assert!(5 * seen.changing_clocks >= bodies);
 }
 
 /// A case does not depend on earlier ones.

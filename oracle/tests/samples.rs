@@ -1,4 +1,4 @@
-//! The document's bench samples, by the meaning.
+//! The document's bench samples, and those of E1, by the meaning.
 
 use oracle::arity::check;
 use oracle::column::{parse, text};
@@ -83,8 +83,23 @@ fn ondemand_cable() {
     let input: Vec<i32> = (10..19).collect();
     let given = samples(&table, &[&clock, &input], 9);
     assert_eq!(given, [10, 10, 10, 13, 13, 13, 13, 17, 17]);
-    let never = samples(&table, &[&[2; 9], &input], 9);
-    assert_eq!(never, [0; 9]);
+}
+
+/// E1: "The bench sample with clock 2 now repeats its input at every tick."
+#[test]
+fn clock_of_2() {
+    let input: Vec<i32> = (10..19).collect();
+    let given = samples(&[5, 0, 0, 12, 0, 0], &[&[2; 9], &input], 9);
+    assert_eq!(given, input);
+}
+
+/// E1: "A clock is any number but zero."
+#[test]
+fn clock_of_any_number() {
+    let clock = [3, 0, -1, 0, i32::MAX, i32::MIN];
+    let input = [10, 11, 12, 13, 14, 15];
+    let given = samples(&[5, 0, 0, 12, 0, 0], &[&clock, &input], 6);
+    assert_eq!(given, [10, 10, 12, 12, 14, 15]);
 }
 
 #[test]
@@ -93,6 +108,26 @@ fn ondemand_integrator() {
     table.extend([12, 2, 0]);
     let given = samples(&table, &[&[1, 0, 1, 1], &[5, 6, 7, 8]], 4);
     assert_eq!(given, [5, 5, 12, 20]);
+}
+
+/// E1: "Our engineers take clocks from differences".
+#[test]
+fn clock_of_a_difference() {
+    // (-, _) : ondemand(+ ~ _)
+    let table = [
+        [3, 2, 0],
+        [5, 0, 0],
+        [8, 0, 1],
+        [3, 1, 0],
+        [5, 0, 0],
+        [11, 3, 4],
+        [12, 5, 0],
+        [7, 2, 6],
+    ];
+    // Differences 2 0 -3 0 -2147483648: the last one keeps its low 32 bits.
+    let (first, second) = ([5, 4, 4, 2, 0], [3, 4, 7, 2, i32::MIN]);
+    let given = samples(&table.concat(), &[&first, &second, &[5, 6, 7, 8, 9]], 5);
+    assert_eq!(given, [5, 5, 12, 12, 21]);
 }
 
 #[test]
@@ -114,9 +149,9 @@ fn ondemand_in_ondemand() {
 fn cells_by_the_formulas() {
     // A delay of 3 in an ondemand, five demands in seven ticks.
     let mut meaning = Meaning::of(&[4, 3, 0, 12, 0, 0]);
-    let clock = [1, 0, 1, 1, 2, 1, 1];
-    for (tick, &demand) in clock.iter().enumerate() {
-        meaning.tick(&[demand, 10 + tick as u32, 2], &[0; 16]);
+    let clock = words(&[2, 0, -1, 1, 0, i32::MIN, 3]);
+    for (tick, &now) in clock.iter().enumerate() {
+        meaning.tick(&[now, 10 + tick as u32, 2], &[0; 16]);
     }
     // Demands at 0 2 3 5 6: ring places 0 1 2 0 1 hold 15 16 13; the output was two ago.
     assert_eq!(meaning.cells(), [2, 15, 16, 13, 13]);

@@ -3,7 +3,7 @@
 use oracle::generate::generate;
 use oracle::parse::parse;
 use oracle::programs::{played, translated};
-use oracle::script::{expected, is_open, render};
+use oracle::script::{expected, is_open, plays_in_pieces, render};
 use std::fs::{read, read_dir};
 
 fn path(program: &str, file: &str) -> String {
@@ -17,7 +17,9 @@ fn stored(program: &str, file: &str) -> Vec<u8> {
 
 /// Cases written by hand: the oracle expects what the proved entries must print.
 fn holds(program: &str) {
-    let commands = parse(&stored(program, "stdin"));
+    let script = stored(program, "stdin");
+    assert!(plays_in_pieces(&script));
+    let commands = parse(&script);
     assert!(!is_open(&commands));
     assert!(expected(&commands).into_bytes() == stored(program, "stdout"));
 }

@@ -1,4 +1,4 @@
-//! The document's samples, through walker and runner, in one call and tick by tick.
+//! The document's samples and those of E1, through walker and runner, in one call and tick by tick.
 use circuit::{Counts, Refusal, CELLS, CODE_NUMBERS, CONTROLS, FILE_BYTES, TABLE_NUMBERS};
 
 type Node = [i32; 3];
@@ -132,7 +132,6 @@ fn ondemand() {
         &clocked(&clock, &input),
         &[10, 10, 10, 13, 13, 13, 13, 17, 17],
     );
-    sample(&[CABLE, [12, 0, 0]], 9, &clocked(&[2; 9], &input), &[0; 9]);
     let integrator = [ADD, CABLE, [11, 0, 1], [12, 2, 0]];
     sample(
         &integrator,
@@ -148,6 +147,35 @@ fn ondemand() {
     );
     let inputs = [1, 1, 1, 1, 0, 2, 0, 1, 3, 1, 1, 4];
     sample(&[CABLE, [12, 0, 0], [12, 1, 0]], 4, &inputs, &[1, 1, 1, 4]);
+}
+
+/// E1: "A clock is any number but zero."
+#[test]
+fn clocks() {
+    let cable = [CABLE, [12, 0, 0]];
+    let input: Vec<i32> = (10..19).collect();
+    sample(&cable, 9, &clocked(&[2; 9], &input), &input);
+    let clock = [3, 0, -1, 0, i32::MAX, i32::MIN];
+    sample(
+        &cable,
+        6,
+        &clocked(&clock, &input),
+        &[10, 10, 12, 12, 14, 15],
+    );
+}
+
+/// E1: "Our engineers take clocks from differences": 2, 0, -3, 0, and 0 - -2147483648, which wraps.
+#[test]
+fn clock_of_a_difference() {
+    let difference = [[3, 2, 0], CABLE, [8, 0, 1]];
+    let integrator = [ADD, CABLE, [11, 3, 4], [12, 5, 0]];
+    let inputs = [[5, 3, 5], [4, 4, 6], [4, 7, 7], [2, 2, 8], [0, i32::MIN, 9]];
+    sample(
+        &[&difference[..], &integrator[..], &[[7, 2, 6]]].concat(),
+        5,
+        &inputs.concat(),
+        &[5, 5, 12, 12, 21],
+    );
 }
 
 /// So many delays of D 4095 side by side.
