@@ -1,4 +1,4 @@
--- The worked clocks of source document 002, computed.
+-- The worked clocks of source document 002, and clocks of other numbers than 0 and 1 (E1), computed.
 use Prim.Native.Nat.{ℕ, _^_, _-_}
 use mathlib.Core.Path.{_≡_, refl}
 use mathlib.Core.Bool.{true}
