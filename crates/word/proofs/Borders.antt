@@ -1,11 +1,8 @@
--- The law of the low bits for each operation and all whole numbers, and which clocks are demands, spelled out: a weaker statement would not give them.
-use Prim.Native.Nat.{ℕ, suc, _+_, _-_, _*_, _%_, _^_}
-use mathlib.Core.Path.{_≡_, refl}
-use mathlib.Core.Bool.{true, false}
-use lib.Dec.{eqb·suc-zero}
+-- The law of the low bits for each operation and all whole numbers, spelled out: a weaker statement would not give them.
+use Prim.Native.Nat.{_+_, _-_, _*_, _%_, _^_}
+use mathlib.Core.Path.{_≡_}
 use lib.IntN.{ℤ, _+ℤ_, _-ℤ_, _*ℤ_}
 use Rattle.word.specs.Word.{low}
-use Rattle.word.specs.Operation.{demand}
 use Rattle.word.specs.LowBits.Arithmetic.{sum, difference, product}
 use Rattle.word.proofs.Low.{keeps-low-bits}
 
@@ -17,11 +14,3 @@ differences x y = keeps-low-bits difference x y
 
 products : (x y : ℤ) → low (x *ℤ y) ≡ (low x * low y) % 2 ^ 32
 products x y = keeps-low-bits product x y
-
-no-demand : demand 0 ≡ false
-unfolding demand
-no-demand = refl
-
-any-other : (clock : ℕ) → demand (suc clock) ≡ true
-unfolding demand
-any-other clock = rw eqb·suc-zero
