@@ -48,26 +48,6 @@ pub struct Checked {
     pub counts: Counts,
 }
 
-/// A refusal with every place the document allows for it: only 9 may have more than one.
-#[derive(Clone, Debug, PartialEq, Eq)]
-pub struct Refused {
-    pub number: u32,
-    pub places: Vec<usize>,
-}
-
-impl Refused {
-    fn at(number: u32, place: usize) -> Refused {
-        Refused {
-            number,
-            places: vec![place],
-        }
-    }
-
-    pub fn first(&self) -> Refusal {
-        Refusal::at(self.number, self.places[0])
-    }
-}
-
 /// Row 3: "numbers no multiple of three, or not 1 to 512 nodes; before all nodes".
 /// "place 0 when the list or file is empty or a table's count of numbers is no multiple
 /// of three, otherwise 512".
@@ -82,22 +62,20 @@ pub fn count_nodes(table: &[u32]) -> Result<usize, Refusal> {
     Ok(count)
 }
 
-pub fn check(table: &[u32]) -> Result<Checked, Refused> {
-    let count = count_nodes(table).map_err(|r| Refused::at(3, r.place as usize))?;
+pub fn check(table: &[u32]) -> Result<Checked, Refusal> {
+    let count = count_nodes(table)?;
     let mut arities: Vec<Arity> = Vec::new();
     let mut taken = vec![false; count];
     for place in 0..count {
         let node = Node::at(table, place);
         let arity = check_node(&node, place, &arities, &mut taken)
-            .map_err(|number| Refused::at(number, place))?;
+            .map_err(|number| Refusal::at(number, place))?;
         arities.push(arity);
     }
-    let loose: Vec<usize> = (0..count - 1).filter(|&n| !taken[n]).collect();
-    if !loose.is_empty() {
-        return Err(Refused {
-            number: 9,
-            places: loose,
-        });
+    // Row 9, "after the last node": "a node other than the last is nobody's child". E2: "The
+    // place with refusal 9 becomes the lowest-numbered node that is nobody's child."
+    if let Some(loose) = (0..count - 1).find(|&node| !taken[node]) {
+        return Err(Refusal::at(9, loose));
     }
     let counts = count_all(table, &arities);
     Ok(Checked { arities, counts })

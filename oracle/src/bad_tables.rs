@@ -2,6 +2,7 @@
 
 use crate::arity::{check, Node};
 use crate::circuits::{beside, cable, leaf, ondemand, pair, table, Tree};
+use crate::column::text;
 use crate::good_cases::circuit;
 use crate::random::Random;
 use crate::script::Command;
@@ -13,35 +14,37 @@ pub fn bad_table_case(random: &mut Random) -> Vec<Command> {
     case.push(Command::Controls(vec![0; 16]));
     for _ in 0..2 + random.below(4) {
         let bad = damaged(random, &good);
-        case.push(Command::Table(bad));
+        case.push(Command::Table(bad.clone()));
         case.push(Command::Check);
         match random.below(8) {
             0 | 1 => case.push(Command::Translate(random.below(4))),
-            2 => case.push(Command::Walk(random.within(-1, 1) as u32, 0, 0)),
-            3 => case.push(Command::Write(random.below(41))),
+            2 | 3 => case.push(Command::Walk(random.within(-1, 1) as u32, 0, 0)),
+            4 => case.push(Command::Write(random.below(41))),
+            5 if bad.len().is_multiple_of(3) => {
+                case.extend([Command::File(text(&bad)), Command::Print]);
+            }
             _ => {}
         }
     }
     case
 }
 
-/// The table with one or two things wrong; the place of a refusal is certain.
+/// The table with one or two things wrong.
 pub fn damaged(random: &mut Random, good: &[u32]) -> Vec<u32> {
-    let aim = random.within(3, 9) as u32;
+    let aim = random.pick(&[3, 4, 5, 6, 7, 8, 9, 9]);
     for attempt in 0.. {
         let mut bad = good.to_vec();
         let node = random.below(bad.len() / 3);
         damage(random, &mut bad, node, aim);
         let twice = random.percent(25);
         if twice && !bad.is_empty() && bad.len().is_multiple_of(3) {
-            let (other, next) = (random.below(bad.len() / 3), random.within(4, 7) as u32);
+            let (other, next) = (random.below(bad.len() / 3), random.pick(&[4, 5, 6, 7, 9]));
             let node = node.min(bad.len() / 3 - 1);
             let at = if random.percent(50) { node } else { other };
             damage(random, &mut bad, at, next);
         }
         if let Err(refused) = check(&bad) {
-            let aimed = refused.number == aim || twice || attempt > 40;
-            if aimed && refused.places.len() == 1 {
+            if refused.number == aim || twice || attempt > 40 {
                 return bad;
             }
         }
@@ -156,20 +159,58 @@ pub fn too_wide(random: &mut Random) -> Vec<u32> {
     table(random, &tree)
 }
 
-/// "a node other than the last is nobody's child"
+/// "a node other than the last is nobody's child": one such node, or several.
 fn loosen(random: &mut Random, bad: &mut Vec<u32>) {
     let count = bad.len() / 3;
-    if count > 1 && random.percent(40) {
-        bad.truncate(3 * (count - 1));
-        return;
-    }
-    let at = random.below(count);
-    for node in at..count {
-        let fields = Node::at(bad, node).children().len();
-        for child in &mut bad[3 * node + 1..][..fields] {
-            *child += u32::from(*child as usize >= at);
+    match random.below(4) {
+        // The end is missing, and with it the parents of what stands there.
+        0 => bad.truncate(3 * (1 + random.below(count))),
+        // The last node takes nothing, nor do some before it, or all.
+        1 => {
+            let from = random.pick(&[0, count / 2, count - 1, count - 1]);
+            let nodes = bad[3 * from..].chunks_mut(3);
+            nodes.for_each(|node| node.copy_from_slice(&small(random)));
+        }
+        _ => {
+            for _ in 0..random.pick(&[1, 1, 1, 2, 3, 5]) {
+                add_part(random, bad);
+            }
         }
     }
-    let loose = random.pick(&[[1, 3, 0], [3, 1, 0], [5, 0, 0], [6, 0, 0], [4, 2, 0]]);
-    bad.splice(3 * at..3 * at, loose);
+}
+
+/// A node without children.
+fn small(random: &mut Random) -> [u32; 3] {
+    random.pick(&[
+        [1, 3, 0],
+        [2, 4, 0],
+        [3, 1, 0],
+        [4, 2, 0],
+        [5, 0, 0],
+        [6, 0, 0],
+    ])
+}
+
+/// A part that nobody takes, anywhere before the last node: a node without children, and
+/// often ondemands around it, each anywhere after its body.
+fn add_part(random: &mut Random, bad: &mut Vec<u32>) {
+    let mut at = random.below(bad.len() / 3);
+    insert(bad, at, small(random));
+    while random.percent(40) {
+        let body = at;
+        at = body + 1 + random.below(bad.len() / 3 - 1 - body);
+        insert(bad, at, [12, body as u32, 0]);
+    }
+}
+
+/// Puts a node at a place; the nodes from there on move up, for their parents too.
+fn insert(bad: &mut Vec<u32>, at: usize, node: [u32; 3]) {
+    let moved = at as u32..bad.len() as u32 / 3;
+    for parent in moved.clone() {
+        let fields = Node::at(bad, parent as usize).children().len();
+        for child in &mut bad[3 * parent as usize + 1..][..fields] {
+            *child += u32::from(moved.contains(child));
+        }
+    }
+    bad.splice(3 * at..3 * at, node);
 }

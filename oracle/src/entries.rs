@@ -54,7 +54,7 @@ impl Past {
         cells: &mut [u32],
         outputs: &mut [u32],
     ) -> Result<u32, Refusal> {
-        let checked = check(table).map_err(|refused| refused.first())?;
+        let checked = check(table)?;
         if checked.counts.cells as usize > MOST_CELLS {
             return Err(Refusal::nowhere(11));
         }

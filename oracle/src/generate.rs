@@ -6,7 +6,7 @@ use crate::bad_tables::bad_table_case;
 use crate::good_cases::{good_case, long_case, usual_size};
 use crate::limit_cases::{limit_case, nodes_case, operations_case};
 use crate::random::Random;
-use crate::script::{is_open, Command};
+use crate::script::Command;
 
 /// The commands of so many cases.
 pub fn generate(seed: u64, cases: usize) -> Vec<Command> {
@@ -20,18 +20,8 @@ pub fn generate(seed: u64, cases: usize) -> Vec<Command> {
     commands
 }
 
+/// A case of the default mix.
 fn one(random: &mut Random, number: usize) -> (&'static str, Vec<Command>) {
-    loop {
-        let (kind, case) = mixed(random, number);
-        // Refusal 9 with more than one possible place: "the place is such a node".
-        if !is_open(&case) {
-            return (kind, case);
-        }
-    }
-}
-
-/// The default mix.
-fn mixed(random: &mut Random, number: usize) -> (&'static str, Vec<Command>) {
     if number % 1000 == 500 {
         return ("many nodes", nodes_case(random, number % 2000 == 500));
     }

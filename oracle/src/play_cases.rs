@@ -1,17 +1,16 @@
 //! Random inputs of the programs `translate` and `play`.
 
-use crate::arity::check;
 use crate::bad_tables::damaged;
-use crate::column::{parse, text};
+use crate::column::text;
 use crate::good_cases::{circuit, controls, inputs, usual_size, Circuit};
 use crate::random::Random;
 
-/// The file of an accepted circuit, or one with a fault; none that has two loose nodes.
+/// The file of an accepted circuit, or one with a fault.
 pub fn file(random: &mut Random) -> (Circuit, Vec<u8>) {
     let size = usual_size(random);
     let circuit = circuit(random, size);
     let mut table = circuit.table.clone();
-    if random.percent(8) {
+    if random.percent(12) {
         table = damaged(random, &table);
         table.truncate(table.len() / 3 * 3);
     }
@@ -22,10 +21,6 @@ pub fn file(random: &mut Random) -> (Circuit, Vec<u8>) {
     }
     if random.percent(3) {
         file.truncate(random.below(file.len() + 1));
-    }
-    let loose = parse(&file).is_ok_and(|table| check(&table).is_err_and(|r| r.places.len() > 1));
-    if loose {
-        file = text(&circuit.table);
     }
     (circuit, file)
 }

@@ -10,10 +10,10 @@ use crate::script::{expected, Command};
 /// "one of more than 65,536 bytes with its line feed"
 const BUFFER: usize = 65536;
 
-/// The circuit of a file: lines, table, 10, 11. A refusal 9 is to have one place only.
+/// The circuit of a file: lines, table, 10, 11.
 fn circuit(file: &[u8]) -> Result<(Vec<u32>, Checked), Refusal> {
     let table = parse(file)?;
-    let checked = check(&table).map_err(|refused| refused.first())?;
+    let checked = check(&table)?;
     if checked.counts.instructions > 2048 {
         return Err(Refusal::nowhere(10));
     }

@@ -64,25 +64,11 @@ impl<E: Engine> Actor for Live<'_, E> {
 pub struct Oracle {
     pasts: [Past; 2],
     translated: Vec<(Vec<u32>, Vec<u32>)>,
-    /// A refusal 9 had more than one possible place.
-    pub open: bool,
-}
-
-impl Oracle {
-    fn look(&mut self, table: &[u32]) -> Result<Counts, Refusal> {
-        match arity::check(table) {
-            Ok(checked) => Ok(checked.counts),
-            Err(refused) => {
-                self.open |= refused.places.len() > 1;
-                Err(refused.first())
-            }
-        }
-    }
 }
 
 impl Actor for Oracle {
     fn check(&mut self, table: &[u32]) -> Result<Counts, Refusal> {
-        self.look(table)
+        arity::check(table).map(|checked| checked.counts)
     }
     fn read(&mut self, file: &[u8], table: &mut [u32]) -> Answer {
         column::read(file, table)
@@ -91,7 +77,6 @@ impl Actor for Oracle {
         column::write(table, file)
     }
     fn translate(&mut self, table: &[u32], code: &mut [u32]) -> Answer {
-        self.look(table)?;
         let length = translate::translate(table, code)?;
         let code = code[..length as usize].to_vec();
         self.translated.push((table.to_vec(), code));
@@ -101,7 +86,6 @@ impl Actor for Oracle {
         self.pasts[memory].load(named, cells)
     }
     fn walk(&mut self, table: &[u32], block: &Block, cells: &mut [u32], out: &mut [u32]) -> Answer {
-        self.look(table)?;
         self.pasts[0].walk(table, block, cells, out)
     }
     fn run(&mut self, code: &[u32], block: &Block, cells: &mut [u32], out: &mut [u32]) -> Answer {

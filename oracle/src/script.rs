@@ -39,14 +39,6 @@ pub fn play(commands: &[Command], engine: &impl Engine) -> String {
     perform(commands, &mut Live(engine))
 }
 
-/// Whether the document leaves an answer in the script to the program: refusal 9 with more
-/// than one loose node.
-pub fn is_open(commands: &[Command]) -> bool {
-    let mut oracle = Oracle::default();
-    perform(commands, &mut oracle);
-    oracle.open
-}
-
 /// "A space stands before each number, and two or more equal numbers in a row, as many as
 /// there are, are one `v*k`."
 pub fn list(numbers: &[u32]) -> String {

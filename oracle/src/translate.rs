@@ -34,7 +34,7 @@ pub fn code(table: &[u32], checked: &Checked) -> Vec<u32> {
 
 /// "Translator: table, 10, 11, 12."
 pub fn translate(table: &[u32], buffer: &mut [u32]) -> Result<u32, Refusal> {
-    let checked = check(table).map_err(|refused| refused.first())?;
+    let checked = check(table)?;
     if checked.counts.instructions as usize > MOST_INSTRUCTIONS {
         return Err(Refusal::nowhere(10));
     }

@@ -19,7 +19,7 @@ type Answer = Result<u32, Refusal>;
 
 impl Engine for Flat {
     fn check(&self, table: &[u32]) -> Result<Counts, Refusal> {
-        check(table).map(|c| c.counts).map_err(|r| r.first())
+        check(table).map(|checked| checked.counts)
     }
     fn read(&self, file: &[u8], table: &mut [u32]) -> Answer {
         column::read(file, table)

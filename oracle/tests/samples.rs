@@ -199,7 +199,7 @@ fn cables(count: u32) -> Vec<u32> {
 #[test]
 fn wires_and_lines() {
     assert_eq!(check(&cables(32)).expect("32 wires").counts.inputs, 32);
-    let refused = check(&cables(33)).expect_err("33 wires").first();
+    let refused = check(&cables(33)).expect_err("33 wires");
     assert_eq!(refused, Refusal::at(8, 64));
     let lines = [5, 0, 0].repeat(513);
     assert_eq!(parse(&text(&lines[3..])).expect("512 lines").len(), 1536);

@@ -3,7 +3,7 @@
 use oracle::generate::generate;
 use oracle::parse::parse;
 use oracle::programs::{played, translated};
-use oracle::script::{expected, is_open, plays_in_pieces, render};
+use oracle::script::{expected, plays_in_pieces, render};
 use std::fs::{read, read_dir};
 
 fn path(program: &str, file: &str) -> String {
@@ -20,7 +20,6 @@ fn holds(program: &str) {
     let script = stored(program, "stdin");
     assert!(plays_in_pieces(&script));
     let commands = parse(&script);
-    assert!(!is_open(&commands));
     assert!(expected(&commands).into_bytes() == stored(program, "stdout"));
 }
 
