@@ -1,11 +1,15 @@
-//! What the default mix holds: every refusal, every kind, and bodies that demands reach.
+//! What the default mix holds: every refusal, every kind, bodies that demands reach, and tables
+//! with several loose nodes.
 
 use oracle::arity::{check, Node};
 use oracle::column::parse;
 use oracle::generate::generate;
 use oracle::graph::Signal;
 use oracle::meaning::Meaning;
+use oracle::play_cases::file;
+use oracle::random::Random;
 use oracle::script::{expected, plays_in_pieces, render, Command};
+use std::iter::successors;
 
 #[test]
 fn refusals() {
@@ -138,6 +142,138 @@ fn kinds() {
     assert!(3 * seen.other_clocks >= bodies);
     assert!(5 * seen.negative_clocks >= bodies);
     assert!(5 * seen.changing_clocks >= bodies);
+}
+
+/// Each node's parent, by the table alone; none for a node that is nobody's child.
+fn parents(table: &[u32]) -> Vec<Option<usize>> {
+    let mut parents = vec![None; table.len() / 3];
+    for number in 0..parents.len() {
+        for child in Node::at(table, number).children() {
+            if let Some(parent) = parents.get_mut(child as usize) {
+                *parent = Some(number);
+            }
+        }
+    }
+    parents
+}
+
+/// What the tables show that a script hands to an entry.
+#[derive(Default, Debug)]
+struct Loose {
+    /// Were the last node a loose one too, these would be refused.
+    accepted: usize,
+    /// Refusals 4 to 8 at a node after a loose one: 9 is checked "after the last node".
+    refused_before: usize,
+    /// Tables with refusal 9; with two loose nodes or more, with three or more.
+    refused: usize,
+    several: usize,
+    many: usize,
+    neighbours: usize,
+    /// Where the lowest loose node is node 0, where it has children.
+    first: usize,
+    with_children: usize,
+    last_but_one: usize,
+    last_takes_nothing: usize,
+    /// Tables with refusal 9 that would get another place by each of the wrong rules.
+    wrong: [usize; 4],
+}
+
+impl Loose {
+    fn table(&mut self, table: &[u32]) {
+        let parents = parents(table);
+        match check(table) {
+            Ok(_) => self.accepted += 1,
+            Err(refused) if refused.number == 9 => {
+                let last = parents.len() - 1;
+                let loose: Vec<usize> = (0..last).filter(|&n| parents[n].is_none()).collect();
+                assert_eq!(refused.place, loose[0] as i32);
+                self.nodes(table, &loose);
+                self.rules(&parents, loose[0]);
+            }
+            Err(refused) if refused.number > 3 => {
+                let before = parents[..refused.place as usize].contains(&None);
+                self.refused_before += usize::from(before);
+            }
+            Err(_) => {}
+        }
+    }
+
+    fn nodes(&mut self, table: &[u32], loose: &[usize]) {
+        let last = table.len() / 3 - 1;
+        let childless = |node| Node::at(table, node).children().is_empty();
+        let next = |two: &[usize]| two[0] + 1 == two[1];
+        self.refused += 1;
+        self.several += usize::from(loose.len() > 1);
+        self.many += usize::from(loose.len() > 2);
+        self.neighbours += usize::from(loose.windows(2).any(next));
+        self.first += usize::from(loose[0] == 0);
+        self.with_children += usize::from(!childless(loose[0]));
+        self.last_but_one += usize::from(loose.contains(&(last - 1)));
+        self.last_takes_nothing += usize::from(childless(last));
+    }
+
+    /// The places by the wrong rules: the highest loose node; the highest node that is nobody's
+    /// child, the last included; the lowest that the next node does not take, as a single pass
+    /// might find it; the lowest that is not below the last, though another may have it.
+    fn rules(&mut self, parents: &[Option<usize>], lowest: usize) {
+        let last = parents.len() - 1;
+        let top = |node| successors(Some(node), |&node: &usize| parents[node]).last();
+        let places = [
+            parents[..last].iter().rposition(Option::is_none),
+            parents.iter().rposition(Option::is_none),
+            (0..last).find(|&node| parents[node] != Some(node + 1)),
+            (0..last).find(|&node| top(node) != Some(last)),
+        ];
+        for (times, place) in self.wrong.iter_mut().zip(places) {
+            *times += usize::from(place != Some(lowest));
+        }
+    }
+
+    /// Whether there are so many of each, and enough tables with several loose nodes.
+    fn holds(&self, least: usize) -> bool {
+        let often = [
+            self.accepted,
+            self.refused_before,
+            self.neighbours,
+            self.first,
+            self.with_children,
+            self.last_but_one,
+            self.last_takes_nothing,
+        ];
+        let mut counts = often.iter().chain(&self.wrong);
+        let shares = 2 * self.several >= self.refused && 4 * self.many >= self.refused;
+        shares && self.several < self.refused && counts.all(|&times| times >= least)
+    }
+}
+
+/// Tables with several loose nodes, such that a wrong choice among them shows.
+#[test]
+fn loose_nodes() {
+    let mut seen: [Loose; 3] = Default::default();
+    let mut table = vec![];
+    for command in generate(1, 3000) {
+        match command {
+            Command::Table(numbers) => table = numbers,
+            Command::Check => seen[0].table(&table),
+            Command::Translate(_) => seen[1].table(&table),
+            Command::Walk(..) => seen[2].table(&table),
+            _ => {}
+        }
+    }
+    println!("check, translate, walk: {seen:#?}");
+    let mut least = seen.iter().zip([50, 15, 12]);
+    assert!(least.all(|(seen, least)| seen.holds(least)));
+}
+
+/// The files of the programs have such tables as well.
+#[test]
+fn loose_nodes_in_files() {
+    let mut random = Random::new(1);
+    let mut seen = Loose::default();
+    let tables = (0..4000).filter_map(|_| parse(&file(&mut random).1).ok());
+    tables.for_each(|table| seen.table(&table));
+    println!("{seen:#?}");
+    assert!(seen.holds(10));
 }
 
 /// A case does not depend on earlier ones.
