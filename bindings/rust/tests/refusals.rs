@@ -97,6 +97,19 @@ fn nodes() {
     assert_eq!(unchecked(&[[5, 0, 0], [5, 0, 0]]), refusal(9, 0));
 }
 
+/// "The lowest-numbered node that is nobody's child", here 1 of 1 and 3, and 2 of 2 and 3.
+#[test]
+fn loose_nodes() {
+    assert_eq!(
+        unchecked(&[[5, 0, 0], [1, 4, 0], [12, 0, 0], [2, 3, 0], [12, 2, 0]]),
+        refusal(9, 1)
+    );
+    assert_eq!(
+        unchecked(&[[5, 0, 0], [5, 0, 0], [8, 0, 1], [6, 0, 0], [1, 4, 0]]),
+        refusal(9, 2)
+    );
+}
+
 /// A parallel of 32 numbers under so many ondemands, each of which adds an input.
 fn nested(depth: i32) -> Vec<[i32; 3]> {
     let mut nodes = vec![[1, 7, 0]];
