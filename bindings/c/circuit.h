@@ -76,7 +76,7 @@ enum {
     CIRCUIT_WRONG_CHILD = 6,            /* a child that is negative, not lower, named twice, or taken before */
     CIRCUIT_NO_ARITY_RULE = 7,          /* no arity rule fits */
     CIRCUIT_TOO_WIDE = 8,               /* inputs or outputs above 32 */
-    CIRCUIT_LOOSE_NODE = 9,             /* a node other than the last that is nobody's child */
+    CIRCUIT_LOOSE_NODE = 9,             /* a node other than the last that is nobody's child, of several the lowest */
     CIRCUIT_TOO_MANY_INSTRUCTIONS = 10, /* more than 2,048 instructions */
     CIRCUIT_TOO_MANY_CELLS = 11,        /* cells that are not 0 to 16,384 */
     CIRCUIT_SHORT_BUFFER = 12,          /* the buffer to be filled or changed is shorter than needed */

@@ -84,7 +84,7 @@ impl Refusal {
             6 => "a child that is negative, not lower, named twice, or taken before",
             7 => "no arity rule fits",
             8 => "inputs or outputs above 32",
-            9 => "a node other than the last that is nobody's child",
+            9 => "a node other than the last that is nobody's child, of several the lowest",
             10 => "more than 2,048 instructions",
             11 => "cells that are not 0 to 16,384",
             12 => "the buffer to be filled or changed is shorter than needed",

@@ -1,6 +1,6 @@
 -- A table of the stated form is accepted exactly where the published rules count inputs and outputs of each of its nodes, none above 32.
 use Prim.Native.Nat.{ℕ, suc, _≤_, _<_}
-use mathlib.Core.Path.{_≡_, refl, sym, ap, _∙_}
+use mathlib.Core.Path.{_≡_, refl, sym, _∙_}
 use mathlib.Core.Logic.{inl, inr, _↔_}
 use mathlib.Core.Bool.{Bool, true, false, false≢true}
 use mathlib.Core.List.{List}
@@ -9,18 +9,14 @@ use native.Mathlib.Decide.{decLe, decLt}
 use lib.Dec.{leb}
 use borrow.Author.Tests.{leb-true, ltb-true, eqb-true, le-leb, le-ltb, lt-ltb, eq-eqb, ne-eqb}
 use Rattle.word.specs.Operation.{operands}
-use Rattle.refusal.specs.Answer.Answer.{counts}
 use Rattle.arity.specs.Tree.{ins, outs}
 use Rattle.arity.specs.Tree.Tree.{join}
 use Rattle.arity.specs.Table.{kindAt, firstAt, secondAt, nodes, tree, compositionOf}
 use Rattle.arity.specs.Rules.{Arity}
 use Rattle.arity.specs.WellFormed.{Ruled}
-use Rattle.arity.specs.Check.{twoChildren, firstInRange, secondInRange, ruleFits, taken, refusalAt, loose, report, checked}
-use Rattle.arity.specs.Checked.{answerOf, Checked, IsAccepted}
+use Rattle.arity.specs.Check.{twoChildren, firstInRange, secondInRange, ruleFits, taken, refusalAt, loose, firstLoose, report, checked, IsAccepted}
 use Rattle.arity.specs.Formed.{Child, Children, Fields, Formed, Fitting}
 use Rattle.arity.specs.Acceptance.{Acceptance}
-use Rattle.arity.specs.declared.CheckAnswer.{CheckAnswer}
-use Rattle.arity.specs.declared.CheckAnswer.the-variants.{Accepted, Refused}
 use Rattle.arity.proofs.Exact.{ruled, arity}
 use Rattle.arity.proofs.Tests.{and-left, and-right, known-false}
 use Rattle.arity.proofs.ByKind.{Alone, alone-of, two-of, fits-of, rule-of, rule-other}
@@ -117,11 +113,11 @@ module _ (t : List ℕ) (f : Formed t) (w : Fitting t) where
       go (yes h) = let a = f .attached p h in rw (lt-ltb (suc p) (nodes t) h, child-taken t (nodes t) (a .0) p (a .1) (a .2))
       go (no h) = rw (le-ltb (suc p) (nodes t) (omega arith))
 
-  complete : (p : ℕ) → checked p t ≡ report t
-  complete p =
+  complete : checked t ≡ report t
+  complete =
       let l = f .least in
       let q = f .whole in
-      passes p t (even t (λ e. omega arith) (omega arith)) (f .most) not-refused ∙ rw (not-loose p)
+      passes t (even t (λ e. omega arith) (omega arith)) (f .most) not-refused ∙ rw (not-loose (firstLoose t))
 
 -- an accepted table: it is of the form, and its nodes have arities
 module _ (t : List ℕ) (x : Passed t) where
@@ -160,19 +156,10 @@ module _ (t : List ℕ) (x : Passed t) where
   fitting : Fitting t
   fitting i h = (ins (tree t i), outs (tree t i), arities i h, rights t (nodes t) (x .right) i h .inputs, rights t (nodes t) (x .right) i h .outputs)
 
-reported : (xs : List ℕ) (r : CheckAnswer) → answerOf r ≡ counts xs → IsAccepted r
-reported xs (Accepted a b c d) e = (a, b, c, d, refl)
-reported xs (Refused x) e = let z : _≡_ {A = ℕ} 0 1 = cc in absurd (omega arith)
-
 -- exactly the tables of the stated form are accepted whose nodes have arities by the published rules, none above 32
-accepted : (t : List ℕ) (r : CheckAnswer) → Checked t r → IsAccepted r ↔ (Formed t × Fitting t)
-accepted t r k = (only, λ (f, w). reported _ r (k .answer ∙ complete t f w (k .place)))
-  where
-    only : IsAccepted r → Formed t × Fitting t
-    only (a, b, c, d, e) =
-        let x = has-passed (k .place) t _ (k .isLoose) (sym (k .answer) ∙ ap answerOf e) .0 in
-        (formed t x, fitting t x)
+accepted : (t : List ℕ) → IsAccepted t ↔ (Formed t × Fitting t)
+accepted t = (λ (ks, e). let x = has-passed t ks e .0 in (formed t x, fitting t x), λ (f, w). (_, complete t f w))
 
 -- so a table of the form is accepted exactly where they count each of its nodes
 pub acceptance : Acceptance
-acceptance t r k f = (λ h. accepted t r k .0 h .1, λ w. accepted t r k .1 (f, w))
+acceptance t f = (λ h. accepted t .0 h .1, λ w. accepted t .1 (f, w))

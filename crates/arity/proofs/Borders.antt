@@ -1,13 +1,11 @@
 -- The theorems at their borders, spelled out: a premise that asked for more, or a conclusion that said less, would fail here.
 use Prim.Native.Nat.{ℕ, zero, suc, _+_, _*_, _≤_, _<_}
-use mathlib.Core.Path.{_≡_, refl, sym, _∙_}
-use mathlib.Core.Bool.{Bool, true, false, not, _&&_, false≢true}
+use mathlib.Core.Path.{_≡_, refl}
+use mathlib.Core.Bool.{true, false}
 use mathlib.Core.List.{List, [], _∷_, _++_}
 use native.Mathlib.Omega.{arith}
-use native.Mathlib.Decide.{decLt}
 use lib.Dec.{lit<, lit≤}
 use lib.ListN.{length}
-use borrow.Author.Tests.{not-true, le-ltb}
 use Rattle.word.specs.Operation.{operands}
 use Rattle.word.specs.Tick.{zeros, Words}
 use Rattle.word.proofs.Each.{words-by}
@@ -18,13 +16,11 @@ use Rattle.arity.specs.Table.{nodes, kindAt, firstAt, secondAt, tree, tr
 use Rattle.arity.specs.Rules.{Arity}
 use Rattle.arity.specs.WellFormed.{Ruled, WellFormed}
 use Rattle.arity.specs.Nodes.{Complete, subtree, sumTo, cellsBefore}
-use Rattle.arity.specs.Check.{checked, nodeByNode, refusalAt, childrenFree, taken, ruleFits, loose}
-use Rattle.arity.specs.Checked.{Checked, IsAccepted}
+use Rattle.arity.specs.Lowest.{lowest}
+use Rattle.arity.specs.Check.{checked, nodeByNode, refusalAt, childrenFree, taken, ruleFits, loose, firstLoose}
 use Rattle.arity.specs.Formed.{Children, Fields, Formed, Counted, Fitting}
-use Rattle.arity.specs.declared.CheckAnswer.{CheckAnswer}
-use Rattle.arity.specs.declared.CheckAnswer.the-variants.{Accepted}
-use Rattle.arity.proofs.Tests.{and-left, and-right}
 use Rattle.arity.proofs.Exact.{exact}
+use Rattle.arity.proofs.Loose.{first-loose}
 use Rattle.arity.proofs.Acceptance.{acceptance}
 use Rattle.arity.proofs.Promise.{promise}
 
@@ -67,35 +63,11 @@ longest-fits : Fitting longest
 unfolding tree treeAt
 longest-fits = only-node (λ i. Counted (tree longest i)) (2, 1, Arity.delay, lit≤ tt, lit≤ tt)
 
-longest-accepted : (r : CheckAnswer) → Checked longest r → IsAccepted r
-longest-accepted r k = acceptance longest r k longest-formed .1 longest-fits
+longest-accepted : (ks : List ℕ) × (checked longest ≡ counts ks)
+longest-accepted = acceptance longest longest-formed .1 longest-fits
 
-longest-counted : (r : CheckAnswer) → Checked longest r → IsAccepted r → (a : ℕ) × (b : ℕ) × Arity (tree longest 0) a b × (a ≤ 32) × (b ≤ 32)
-longest-counted r k h = acceptance longest r k longest-formed .0 h 0 (lit< tt)
-
--- is none of the first n nodes loose?
-abbrev tight : List ℕ → ℕ → Bool
-tight t zero = true
-tight t (suc n) = not (loose t n) && tight t n
-
-none-loose : (t : List ℕ) (n : ℕ) → tight t n ≡ true → (q : ℕ) → q < n → loose t q ≡ false
-none-loose t zero e q h = absurd (omega arith)
-none-loose t (suc n) e q h = go (decLt q n) (λ l. none-loose t n (and-right (not (loose t n)) (tight t n) e) q l)
-  where
-    go : Dec (q < n) → (q < n → loose t q ≡ false) → loose t q ≡ false
-    go (yes l) f = f l
-    go (no l) f = let z : q ≡ n = omega arith in rw z (not-true (loose t n) (and-left (not (loose t n)) (tight t n) e))
-
--- an accepted table by computation
-computed : (t : List ℕ) (a b c d : ℕ) → tight t (nodes t) ≡ true → checked 0 t ≡ counts (a ∷ b ∷ c ∷ d ∷ []) → Checked t (Accepted a b c d)
-computed t a b c d e f = record { place = 0; isLoose = λ q h. absurd (false≢true (sym (not-one q) ∙ h)); answer = sym f }
-  where
-    not-one : (q : ℕ) → loose t q ≡ false
-    not-one q = go (decLt q (nodes t))
-      where
-        go : Dec (q < nodes t) → loose t q ≡ false
-        go (yes l) = none-loose t (nodes t) e q l
-        go (no l) = rw (le-ltb (suc q) (nodes t) (omega arith))
+longest-counted : (ks : List ℕ) → checked longest ≡ counts ks → (a : ℕ) × (b : ℕ) × Arity (tree longest 0) a b × (a ≤ 32) × (b ≤ 32)
+longest-counted ks e = acceptance longest longest-formed .0 (ks, e) 0 (lit< tt)
 
 -- n + 1 cables side by side
 cables : ℕ → List ℕ
@@ -103,20 +75,20 @@ cables zero = 5 ∷ 0 ∷ 0 ∷ []
 cables (suc n) = cables n ++ (5 ∷ 0 ∷ 0 ∷ 8 ∷ (2 * n) ∷ (2 * n + 1) ∷ [])
 
 -- "32 inputs pass; 33 get 8."
-widest : Checked (cables 31) (Accepted 32 32 0 0)
-unfolding cables checked nodeByNode refusalAt childrenFree taken ruleFits tree treeAt ins outs need size sumTo
-widest = computed (cables 31) 32 32 0 0 refl refl
+widest : checked (cables 31) ≡ counts (32 ∷ 32 ∷ 0 ∷ 0 ∷ [])
+unfolding cables checked lowest nodeByNode refusalAt childrenFree taken ruleFits tree treeAt ins outs need size sumTo
+widest = refl
 
-wider : checked 0 (cables 32) ≡ refusedAt 8 64
+wider : checked (cables 32) ≡ refusedAt 8 64
 unfolding cables checked nodeByNode refusalAt childrenFree taken ruleFits tree treeAt ins outs need size sumTo
 wider = refl
 
 -- 512 nodes are looked at, and the first gets 4; 513 get 3
-fullest : checked 0 (zeros 1536) ≡ refusedAt 4 0
+fullest : checked (zeros 1536) ≡ refusedAt 4 0
 unfolding checked nodeByNode refusalAt
 fullest = refl
 
-fuller : checked 0 (zeros 1539) ≡ refusedAt 3 512
+fuller : checked (zeros 1539) ≡ refusedAt 3 512
 unfolding checked
 fuller = refl
 
@@ -124,9 +96,9 @@ fuller = refl
 abbrev pub fourDelays : List ℕ
 fourDelays = 4 ∷ 4095 ∷ 0 ∷ 4 ∷ 4095 ∷ 0 ∷ 8 ∷ 0 ∷ 1 ∷ 4 ∷ 4095 ∷ 0 ∷ 4 ∷ 4095 ∷ 0 ∷ 8 ∷ 3 ∷ 4 ∷ 8 ∷ 2 ∷ 5 ∷ []
 
-pub four-delays-accepted : Checked fourDelays (Accepted 8 4 4 16384)
-unfolding checked nodeByNode refusalAt childrenFree taken ruleFits tree treeAt ins outs need size sumTo
-four-delays-accepted = computed fourDelays 8 4 4 16384 refl refl
+pub four-delays-accepted : checked fourDelays ≡ counts (8 ∷ 4 ∷ 4 ∷ 16384 ∷ [])
+unfolding checked lowest nodeByNode refusalAt childrenFree taken ruleFits tree treeAt ins outs need size sumTo
+four-delays-accepted = refl
 
 pub four-delays-words : Words fourDelays
 four-delays-words = words-by fourDelays refl
@@ -135,9 +107,9 @@ four-delays-words = words-by fourDelays refl
 abbrev pub integrator : List ℕ
 integrator = 3 ∷ 1 ∷ 0 ∷ 5 ∷ 0 ∷ 0 ∷ 11 ∷ 0 ∷ 1 ∷ []
 
-pub integrator-accepted : Checked integrator (Accepted 1 1 3 1)
-unfolding checked nodeByNode refusalAt childrenFree taken ruleFits tree treeAt ins outs need size sumTo operands
-integrator-accepted = computed integrator 1 1 3 1 refl refl
+pub integrator-accepted : checked integrator ≡ counts (1 ∷ 1 ∷ 3 ∷ 1 ∷ [])
+unfolding checked lowest nodeByNode refusalAt childrenFree taken ruleFits tree treeAt ins outs need size sumTo operands
+integrator-accepted = refl
 
 pub integrator-words : Words integrator
 integrator-words = words-by integrator refl
@@ -145,39 +117,46 @@ integrator-words = words-by integrator refl
 abbrev pub ondemandCable : List ℕ
 ondemandCable = 5 ∷ 0 ∷ 0 ∷ 12 ∷ 0 ∷ 0 ∷ []
 
-pub ondemand-accepted : Checked ondemandCable (Accepted 2 1 3 1)
-unfolding checked nodeByNode refusalAt childrenFree taken ruleFits tree treeAt ins outs need size sumTo
-ondemand-accepted = computed ondemandCable 2 1 3 1 refl refl
+pub ondemand-accepted : checked ondemandCable ≡ counts (2 ∷ 1 ∷ 3 ∷ 1 ∷ [])
+unfolding checked lowest nodeByNode refusalAt childrenFree taken ruleFits tree treeAt ins outs need size sumTo
+ondemand-accepted = refl
 
 pub ondemand-words : Words ondemandCable
 ondemand-words = words-by ondemandCable refl
 
 -- the promise with 2,048 instructions and 16,384 cells
-module _ (t : List ℕ) (n m : ℕ) (k : Checked t (Accepted n m 2048 16384)) (words : Words t) where
+module _ (t : List ℕ) (n m : ℕ) (k : checked t ≡ counts (n ∷ m ∷ 2048 ∷ 16384 ∷ [])) (words : Words t) where
   largest-limits : (ins (circuit t) ≤ 32) × (outs (circuit t) ≤ 32) × (need (circuit t) ≤ 2048) × (cellsBefore (circuit t) (nodes t) ≤ 16384)
   largest-limits =
-      let s = promise k refl words .small (omega arith) (omega arith) in
+      let s = promise k words .small (omega arith) (omega arith) in
       (s .inputs, s .outputs, s .instructions, s .cells)
 
   largest-tree : Arity (circuit t) n m × WellFormed (circuit t) × Complete (nodes t) (circuit t)
-  largest-tree = let p = promise k refl words in (p .arity, p .wellFormed, p .complete)
+  largest-tree = let p = promise k words in (p .arity, p .wellFormed, p .complete)
 
   largest-counts : (n ≡ ins (circuit t)) × (m ≡ outs (circuit t)) × (2048 ≡ need (circuit t)) × (16384 ≡ cellsBefore (circuit t) (nodes t))
-  largest-counts = let p = promise k refl words in (p .counted .0, p .counted .1, p .counted .2, p .celled)
+  largest-counts = let p = promise k words in (p .counted .0, p .counted .1, p .counted .2, p .celled)
 
   largest-size : (3 * nodes t ≡ length t) × (1 ≤ nodes t) × (nodes t ≤ 512)
-  largest-size = let p = promise k refl words in (p .whole, p .least, p .most)
+  largest-size = let p = promise k words in (p .whole, p .least, p .most)
 
   largest-node : (i : ℕ) → i < nodes t → Arity (tree t i) (ins (tree t i)) (outs (tree t i)) × (subtree (circuit t) i ≡ tree t i) × (need (tree t i) ≤ need (circuit t))
-  largest-node i h = let p = promise k refl words .node i h in (p .arity, p .part, p .instructions)
-
-  largest-answer : (p : ℕ) → checked p t ≡ counts (n ∷ m ∷ 2048 ∷ 16384 ∷ [])
-  largest-answer = promise k refl words .answer
+  largest-node i h = let p = promise k words .node i h in (p .arity, p .part, p .instructions)
 
 -- and with the largest word
 abbrev minusOne : List ℕ
 minusOne = 1 ∷ 4294967295 ∷ 0 ∷ []
 
+minus-one-accepted : checked minusOne ≡ counts (0 ∷ 1 ∷ 1 ∷ 0 ∷ [])
+unfolding checked lowest nodeByNode refusalAt childrenFree taken ruleFits tree treeAt ins outs need size sumTo
+minus-one-accepted = refl
+
 largest-number : WellFormed (circuit minusOne)
-unfolding checked nodeByNode refusalAt childrenFree taken ruleFits tree treeAt ins outs need size sumTo
-largest-number = promise (computed minusOne 0 1 1 0 refl refl) refl (words-by minusOne refl) .wellFormed
+largest-number = promise minus-one-accepted (words-by minusOne refl) .wellFormed
+
+-- the place with refusal 9: any loose node tells that the first one is loose, and the node just before it is not
+first-is-loose : (t : List ℕ) (q : ℕ) → loose t q ≡ true → loose t (firstLoose t) ≡ true
+first-is-loose t = first-loose t .isLoose
+
+before-first : (t : List ℕ) (q : ℕ) → suc q ≡ firstLoose t → loose t q ≡ false
+before-first t q e = first-loose t .noLower q (omega (arith, e))

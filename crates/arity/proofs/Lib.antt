@@ -10,6 +10,8 @@ mod Right
 mod Once
 mod Parts
 mod Bounds
+mod Lowest
+pub mod Loose
 mod Walk
 pub mod Acceptance
 pub mod Promise

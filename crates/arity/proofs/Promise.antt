@@ -2,25 +2,23 @@
 use Prim.Native.Nat.{ℕ, zero, suc, _-_, _*_, _≤_, _<_}
 use mathlib.Core.Path.{_≡_, refl, sym, ap, _∙_, subst₂}
 use mathlib.Core.Logic.{inl, inr}
-use mathlib.Core.List.{List}
+use mathlib.Core.List.{List, [], _∷_}
 use native.Mathlib.Omega.{arith}
 use native.Mathlib.Decide.{decLe}
 use lib.ListN.{length}
 use Rattle.word.specs.Tick.{Words}
 use Rattle.word.proofs.Each.{word-at}
+use Rattle.refusal.specs.Answer.Answer.{counts}
 use Rattle.arity.specs.Tree.{ins, outs, need}
 use Rattle.arity.specs.Table.{kindAt, firstAt, secondAt, nodes, tree, circuit, compositionOf}
 use Rattle.arity.specs.Rules.{Arity}
 use Rattle.arity.specs.WellFormed.{Fits, WellFormed}
 use Rattle.arity.specs.Nodes.{Numbered, Complete, cellsBefore}
 use Rattle.arity.specs.Check.{ruleFits, report, cellsOf, firstCell}
-use Rattle.arity.specs.Checked.{answerOf, Checked}
 use Rattle.arity.specs.Formed.{Child, Children}
 use Rattle.arity.specs.Survey.{rowOf, rowAt, putRow, filled}
 use Rattle.arity.specs.Promise.{Node, Promised, Recounted, Rows}
 use Rattle.arity.specs.declared.rows.Row.{Row}
-use Rattle.arity.specs.declared.CheckAnswer.{CheckAnswer}
-use Rattle.arity.specs.declared.CheckAnswer.the-variants.{Accepted}
 use Rattle.arity.proofs.Sizes.{cells-before, cells-after-node}
 use Rattle.arity.proofs.ByKind.{alone-of, two-of, fits-of, known-of}
 use Rattle.arity.proofs.Trees.{View, view, as-leaf, as-join, as-ondemand}
@@ -29,7 +27,7 @@ use Rattle.arity.proofs.Right.{Right, rights, kids}
 use Rattle.arity.proofs.Once.{nodewise, below, distinct, sized, everywhere}
 use Rattle.arity.proofs.Parts.{part, part-need}
 use Rattle.arity.proofs.Bounds.{need-most, cells-most}
-use Rattle.arity.proofs.Walk.{Passed, even, passes, has-passed}
+use Rattle.arity.proofs.Walk.{Passed, has-passed}
 use Rattle.arity.proofs.Acceptance.{formed, arities}
 use Rattle.arity.proofs.Next.{put-length, row-other, row-same, one-more}
 use Rattle.arity.proofs.End.{surveyed-all}
@@ -112,16 +110,13 @@ module _ (t : List ℕ) (x : Passed t) where
           part = q;
         }
 
-passed : {t : List ℕ} {o : CheckAnswer} {a b c d : ℕ} → Checked t o → o ≡ Accepted a b c d → Passed t × (report t ≡ answerOf (Accepted a b c d))
-passed {t} k e = has-passed (k .place) t _ (k .isLoose) (sym (k .answer) ∙ ap answerOf e)
+pub recounted : (t : List ℕ) → Recounted t
+recounted t (ks, e) =
+    let (x, r) = has-passed t ks e in
+    rw (first-cell t x (nodes t) (omega arith)) (e ∙ sym r)
 
-pub recounted : (p : ℕ) (t ks : List ℕ) → Recounted p t ks
-recounted p t ks l e =
-    let (x, r) = has-passed p t ks l e in
-    record { place = p; isLoose = l; answer = rw (first-cell t x (nodes t) (omega arith)) (r ∙ sym e) }
-
-pub promise : {t : List ℕ} {o : CheckAnswer} {a b c d : ℕ} → Promised t o a b c d
-promise {t} {o} {a} {b} {c} {d} k e words =
+pub promise : {t : List ℕ} {a b c d : ℕ} → Promised t a b c d
+promise {t} {a} {b} {c} {d} e words =
     record {
       whole = x .whole;
       least = x .least;
@@ -139,14 +134,13 @@ promise {t} {o} {a} {b} {c} {d} k e words =
         cells = omega (arith, total);
       };
       node = node t x words;
-      answer = λ p. passes p t (even t (λ z. omega (arith, x .whole, x .least)) (omega (arith, x .whole))) (x .most) (x .right) ∙ rw (x .tight p) r;
     }
   where
     x : Passed t
-    x = passed k e .0
+    x = has-passed t _ e .0
 
-    r : report t ≡ answerOf (Accepted a b c d)
-    r = passed k e .1
+    r : report t ≡ counts (a ∷ b ∷ c ∷ d ∷ [])
+    r = has-passed t _ e .1
 
     inputs : a ≡ ins (circuit t)
     inputs = cc r
@@ -177,8 +171,8 @@ filled-row t s (suc i) h =
     (λ j k. row-other (filled t i s) i (rowOf t i) j (λ e. omega arith) ∙ filled-row t s i (omega arith) j k)
     (row-same (filled t i s) i (rowOf t i) (omega (arith, filled-length t s i)))
 
-pub rows : {t : List ℕ} (s : List ℕ) {s′ : List ℕ} {o : CheckAnswer} {a b c d : ℕ} → Rows t s s′ o a b c d
-rows {t} s {s′} {o} {a} {b} {c} {d} k e long f i h =
+pub rows : {t : List ℕ} (s : List ℕ) {s′ : List ℕ} → Rows t s s′
+rows {t} s {s′} (ks, e) long f i h =
     let q = row-at in
     record {
       inputs = ap (λ (r : Row). r .inputs) q;
@@ -188,7 +182,7 @@ rows {t} s {s′} {o} {a} {b} {c} {d} k e long f i h =
     }
   where
     x : Passed t
-    x = passed k e .0
+    x = has-passed t ks e .0
 
     row-at : rowAt s′ i ≡ rowOf t i
     row-at =

@@ -8,6 +8,7 @@ use Rattle.refusal.specs.Answer.Answer.{counts}
 use Rattle.arity.specs.Tree.{ins, outs, need, size}
 use Rattle.arity.specs.Table.{tree, treeAt}
 use Rattle.arity.specs.Nodes.{sumTo}
+use Rattle.arity.specs.Lowest.{lowest}
 use Rattle.arity.specs.Check.{checked, nodeByNode, refusalAt, childrenFree, taken, ruleFits}
 
 -- a table and the check's answer to it
@@ -35,13 +36,18 @@ samples =
     ∷ sample (cable ++ 13 ∷ 0 ∷ 0 ∷ []) (refusedAt 4 1)
     ∷ sample (3 ∷ 10 ∷ 0 ∷ []) (refusedAt 5 0)
     ∷ sample (cable ++ 8 ∷ 0 ∷ 0 ∷ []) (refusedAt 6 1)
-    ∷ sample (cable ++ cable) (refusedAt 9 0)
+    -- two loose nodes, and the last, which is none
+    ∷ sample (cable ++ cable ++ cable) (refusedAt 9 0)
+    -- node 0 is the child of a late node; 1 and 3 are loose
+    ∷ sample (cable ++ cable ++ cable ++ cable ++ 8 ∷ 0 ∷ 2 ∷ []) (refusedAt 9 1)
+    -- two cables side by side that nobody has: their root is loose, and so is the cable behind it
+    ∷ sample (cable ++ cable ++ 8 ∷ 0 ∷ 1 ∷ cable ++ cable) (refusedAt 9 2)
     ∷ []
 
 all-right : List Sample → Type 0
 all-right [] = Unit {0}
-all-right (s ∷ ss) = (checked 0 (s .table) ≡ s .answer) × all-right ss
+all-right (s ∷ ss) = (checked (s .table) ≡ s .answer) × all-right ss
 
 samples-right : all-right samples
-unfolding samples all-right checked nodeByNode refusalAt childrenFree taken ruleFits tree treeAt ins outs need size sumTo operands
-samples-right = (refl, (refl, (refl, (refl, (refl, (refl, (refl, (refl, (refl, (refl, tt))))))))))
+unfolding samples all-right checked lowest nodeByNode refusalAt childrenFree taken ruleFits tree treeAt ins outs need size sumTo operands
+samples-right = (refl, (refl, (refl, (refl, (refl, (refl, (refl, (refl, (refl, (refl, (refl, (refl, tt))))))))))))

@@ -3,7 +3,7 @@ use Prim.Native.Nat.{ℕ}
 use mathlib.Core.Path.{_≡_, refl}
 use mathlib.Core.Logic.{_⊎_, inl, inr}
 use mathlib.Core.Bool.{Bool, true, false, not, _&&_, _||_, false≢true}
-use native.Mathlib.Omega.{arith}
+use lib.Dec.{eqb}
 use Rattle.word.specs.Choice.{pick, bit}
 
 pub and-left : (a b : Bool) → (a && b) ≡ true → a ≡ true
@@ -37,6 +37,6 @@ pub passed : (b : Bool) (r x : ℕ) → pick (not b) r x ≡ 0 → (r ≡ 0 → 
 passed true r x e n = (refl, e)
 passed false r x e n = absurd (n e)
 
-pub bit-zero : (b : Bool) → bit b ≡ 0 → b ≡ false
-bit-zero true e = absurd (omega arith)
-bit-zero false e = refl
+pub bit-zero : (b : Bool) → eqb (bit b) 0 ≡ not b
+bit-zero true = refl
+bit-zero false = refl

@@ -2,20 +2,19 @@
 use Prim.Native.Nat.{ℕ, zero, suc, _+_, _*_, _%_, _≤_, _<_}
 use mathlib.Core.Path.{_≡_, refl, sym, _∙_}
 use mathlib.Core.Logic.{_⊎_, inl, inr}
-use mathlib.Core.Bool.{Bool, true, false, not, false≢true}
+use mathlib.Core.Bool.{Bool, true, false}
 use mathlib.Core.List.{List}
 use native.Mathlib.Omega.{arith}
 use native.Mathlib.Decide.{decLt, ℕ-discrete}
 use lib.ListN.{length}
-use lib.Dec.{eqb, ltb}
-use borrow.Author.Tests.{ltb-true, le-ltb, lt-ltb, eq-eqb, ne-eqb}
+use lib.Dec.{eqb}
+use borrow.Author.Tests.{le-ltb, lt-ltb, eq-eqb, ne-eqb}
 use Rattle.word.specs.Choice.{pick}
 use Rattle.refusal.specs.Answer.{Answer, refusedAt}
 use Rattle.refusal.specs.Answer.Answer.{counts}
 use Rattle.arity.specs.Table.{nodes}
-use Rattle.arity.specs.Check.{taken, refusalAt, nodeByNode, report, loose, uneven, checked}
-use Rattle.arity.specs.Checked.{LoosePlace}
-use Rattle.arity.proofs.Tests.{and-left, known-false}
+use Rattle.arity.specs.Check.{refusalAt, nodeByNode, report, loose, firstLoose, uneven, checked}
+use Rattle.arity.proofs.Loose.{tight}
 
 -- accepted is never refused
 never : (xs : List ℕ) (r p : ℕ) → refusedAt r p ≡ counts xs → ⊥
@@ -72,24 +71,24 @@ not-even t (inr n) = go (ℕ-discrete (length t) 0)
     go (yes e) = rw (eq-eqb (length t) 0 e)
     go (no e) = rw (ne-eqb (length t) 0 e, ne-eqb (length t % 3) 0 n)
 
-pub unevenly : (p : ℕ) (t : List ℕ) → uneven t ≡ true → checked p t ≡ refusedAt 3 0
+pub unevenly : (t : List ℕ) → uneven t ≡ true → checked t ≡ refusedAt 3 0
 unfolding checked
-unevenly p t e = rw e
+unevenly t e = rw e
 
-pub too-many : (p : ℕ) (t : List ℕ) → uneven t ≡ false → 512 < nodes t → checked p t ≡ refusedAt 3 512
+pub too-many : (t : List ℕ) → uneven t ≡ false → 512 < nodes t → checked t ≡ refusedAt 3 512
 unfolding checked
-too-many p t e h = rw (e, lt-ltb 512 (nodes t) h)
+too-many t e h = rw (e, lt-ltb 512 (nodes t) h)
 
 -- the nodes, and what comes after the last
-module _ (p : ℕ) (t : List ℕ) (e : uneven t ≡ false) (most : nodes t ≤ 512) where
-  walked : checked p t ≡ nodeByNode t (nodes t) 0 (pick (loose t p) (refusedAt 9 p) (report t))
+module _ (t : List ℕ) (e : uneven t ≡ false) (most : nodes t ≤ 512) where
+  walked : checked t ≡ nodeByNode t (nodes t) 0 (pick (loose t (firstLoose t)) (refusedAt 9 (firstLoose t)) (report t))
   unfolding checked
   walked = rw (e, le-ltb 512 (nodes t) most)
 
-  pub stops : (i : ℕ) → i < nodes t → ((j : ℕ) → j < i → refusalAt t j ≡ 0) → (refusalAt t i ≡ 0 → ⊥) → checked p t ≡ refusedAt (refusalAt t i) i
+  pub stops : (i : ℕ) → i < nodes t → ((j : ℕ) → j < i → refusalAt t j ≡ 0) → (refusalAt t i ≡ 0 → ⊥) → checked t ≡ refusedAt (refusalAt t i) i
   stops i h f g = walked ∙ walk-stops t (nodes t) 0 i _ (omega arith) (omega arith) (λ k x y. f k y) g
 
-  pub passes : ((j : ℕ) → j < nodes t → refusalAt t j ≡ 0) → checked p t ≡ pick (loose t p) (refusedAt 9 p) (report t)
+  pub passes : ((j : ℕ) → j < nodes t → refusalAt t j ≡ 0) → checked t ≡ pick (loose t (firstLoose t)) (refusedAt 9 (firstLoose t)) (report t)
   passes f = walked ∙ walk-passes t (nodes t) 0 _ (λ j x y. f j (omega arith))
 
 -- a table that passes
@@ -100,46 +99,23 @@ pub record Passed (t : List ℕ) : Type 0 where
   pub right : (i : ℕ) → i < nodes t → refusalAt t i ≡ 0
   pub tight : (q : ℕ) → loose t q ≡ false
 
-pub has-passed : (p : ℕ) (t xs : List ℕ) → LoosePlace t p → checked p t ≡ counts xs → Passed t × (report t ≡ counts xs)
-has-passed p t xs l e = first (ℕ-discrete (length t) 0) (ℕ-discrete (length t % 3) 0) (decLt 512 (nodes t)) (loose t p) refl
+pub has-passed : (t xs : List ℕ) → checked t ≡ counts xs → Passed t × (report t ≡ counts xs)
+has-passed t xs e = first (ℕ-discrete (length t) 0) (ℕ-discrete (length t % 3) 0) (decLt 512 (nodes t)) (loose t (firstLoose t)) refl
   where
-    first : Dec (length t ≡ 0) → Dec (length t % 3 ≡ 0) → Dec (512 < nodes t) → (x : Bool) → loose t p ≡ x → Passed t × (report t ≡ counts xs)
-    first (yes z) y x w v = absurd (never _ _ _ (sym (unevenly p t (not-even t (inl z))) ∙ e))
-    first (no z) (no y) x w v = absurd (never _ _ _ (sym (unevenly p t (not-even t (inr y))) ∙ e))
-    first (no z) (yes y) (yes x) w v = absurd (never _ _ _ (sym (too-many p t (even t z y) x) ∙ e))
+    first : Dec (length t ≡ 0) → Dec (length t % 3 ≡ 0) → Dec (512 < nodes t) → (x : Bool) → loose t (firstLoose t) ≡ x → Passed t × (report t ≡ counts xs)
+    first (yes z) y x w v = absurd (never _ _ _ (sym (unevenly t (not-even t (inl z))) ∙ e))
+    first (no z) (no y) x w v = absurd (never _ _ _ (sym (unevenly t (not-even t (inr y))) ∙ e))
+    first (no z) (yes y) (yes x) w v = absurd (never _ _ _ (sym (too-many t (even t z y) x) ∙ e))
     first (no z) (yes y) (no x) true v =
-        absurd (never _ _ _ (rw v at (walk-right t (nodes t) 0 _ _ (sym (walked p t (even t z y) (omega arith)) ∙ e) .1)))
+        absurd (never _ _ _ (rw v at (walk-right t (nodes t) 0 _ _ (sym (walked t (even t z y) (omega arith)) ∙ e) .1)))
     first (no z) (yes y) (no x) false v =
-        let r = walk-right t (nodes t) 0 _ _ (sym (walked p t (even t z y) (omega arith)) ∙ e) in (
+        let r = walk-right t (nodes t) 0 _ _ (sym (walked t (even t z y) (omega arith)) ∙ e) in (
           record {
             whole = omega arith;
             least = omega arith;
             most = omega arith;
             right = λ i h. r .0 i (omega arith) (omega arith);
-            tight = λ j. known-false (loose t j) (λ h. false≢true (sym v ∙ l j h));
+            tight = tight t v;
           },
           rw v at (r .1),
         )
-
--- there is a place for refusal 9
-pub some-place : (t : List ℕ) → (p : ℕ) × LoosePlace t p
-some-place t = go (seek (nodes t))
-  where
-    seek : (n : ℕ) → ((q : ℕ) × (loose t q ≡ true)) ⊎ ((q : ℕ) → q < n → loose t q ≡ false)
-    seek zero = inr (λ q h. absurd (omega arith))
-    seek (suc n) = step (seek n) (loose t n) refl
-      where
-        step : ((q : ℕ) × (loose t q ≡ true)) ⊎ ((q : ℕ) → q < n → loose t q ≡ false) → (x : Bool) → loose t n ≡ x
-            → ((q : ℕ) × (loose t q ≡ true)) ⊎ ((q : ℕ) → q < suc n → loose t q ≡ false)
-        step (inl w) x e = inl w
-        step (inr f) true e = inl (n, e)
-        step (inr f) false e = inr (λ q h. at q h (ℕ-discrete q n))
-          where
-            at : (q : ℕ) → q < suc n → Dec (q ≡ n) → loose t q ≡ false
-            at q h (yes z) = rw z e
-            at q h (no z) = f q (omega arith)
-
-    go : ((q : ℕ) × (loose t q ≡ true)) ⊎ ((q : ℕ) → q < nodes t → loose t q ≡ false) → (p : ℕ) × LoosePlace t p
-    go (inl w) = (w .0, λ q h. w .1)
-    go (inr f) =
-        (0, λ q h. absurd (false≢true (sym (f q (omega (arith, ltb-true (suc q) (nodes t) (and-left (ltb (suc q) (nodes t)) (not (taken t (nodes t) q)) h)))) ∙ h)))

@@ -7,12 +7,11 @@ use mathlib.Core.List.{List}
 use Rattle.arity.specs.Tree.{Tree, ins, outs}
 use Rattle.arity.specs.Rules.{Arity}
 use Rattle.arity.specs.WellFormed.{Ruled}
-use Rattle.arity.specs.Checked.{Checked, IsAccepted}
+use Rattle.arity.specs.Check.{IsAccepted}
 use Rattle.arity.specs.Formed.{Formed, Fitting}
-use Rattle.arity.specs.declared.CheckAnswer.{CheckAnswer}
 
 abbrev pub Acceptance : Type 0
-Acceptance = (t : List ℕ) (r : CheckAnswer) → Checked t r → Formed t → IsAccepted r ↔ Fitting t
+Acceptance = (t : List ℕ) → Formed t → IsAccepted t ↔ Fitting t
 
 -- the rules give a tree a inputs and b outputs exactly where each composition fits and these are counted
 abbrev pub Exact : Type 0

@@ -1,16 +1,20 @@
 -- "The checks by place", for a table: which refusal it gets, at which node, and what the check reports where it gets none.
 use Prim.Native.Nat.{ℕ, zero, suc, _%_}
+use mathlib.Core.Path.{_≡_}
 use mathlib.Core.Bool.{Bool, true, false, not, _&&_, _||_}
 use mathlib.Core.List.{List, [], _∷_}
 use lib.ListN.{length}
 use lib.Dec.{eqb, leb, ltb}
 use Rattle.word.specs.Choice.{pick}
 use Rattle.word.specs.Operation.{operands}
-use Rattle.refusal.specs.Answer.{Answer, refusedAt}
+use Rattle.refusal.specs.Answer.{Answer, refusedAt, refusalOf}
 use Rattle.refusal.specs.Answer.Answer.{counts}
 use Rattle.arity.specs.Tree.{Tree, ins, outs, size, need}
 use Rattle.arity.specs.Table.{kindAt, firstAt, secondAt, nodes, tree, circuit}
 use Rattle.arity.specs.Nodes.{sumTo}
+use Rattle.arity.specs.Lowest.{lowest}
+use Rattle.arity.specs.declared.CheckAnswer.{CheckAnswer}
+use Rattle.arity.specs.declared.CheckAnswer.the-variants.{Accepted, Refused}
 
 -- 4: "kind not 1 to 12"
 abbrev pub knownKind : ℕ → Bool
@@ -103,16 +107,28 @@ report table = counts (ins (circuit table) ∷ outs (circuit table) ∷ need (ci
 abbrev pub loose : List ℕ → ℕ → Bool
 loose table p = ltb (suc p) (nodes table) && not (taken table (nodes table) p)
 
+-- its place, "the lowest-numbered node that is nobody's child"; the count of nodes where none is loose
+abbrev pub firstLoose : List ℕ → ℕ
+firstLoose table = lowest (loose table) (nodes table) 0
+
 -- 3: "numbers no multiple of three", or no node
 abbrev pub uneven : List ℕ → Bool
 uneven table = eqb (length table) 0 || not (eqb (length table % 3) 0)
 
--- the whole check; "Refusal 3 has place 0 when the list or file is empty or a table's count of numbers is no multiple of three, otherwise 512."; p is
--- the place with refusal 9
-unfoldable pub checked : ℕ → List ℕ → Answer
-checked p table =
+-- the whole check; "Refusal 3 has place 0 when the list or file is empty or a table's count of numbers is no multiple of three, otherwise 512."
+unfoldable pub checked : List ℕ → Answer
+checked table =
     pick (uneven table) (refusedAt 3 0)
     (pick (ltb 512 (nodes table)) (refusedAt 3 512)
     (nodeByNode table (nodes table) 0
-    (pick (loose table p) (refusedAt 9 p)
+    (pick (loose table (firstLoose table)) (refusedAt 9 (firstLoose table))
     (report table))))
+
+-- the document's answer for each case
+abbrev pub answerOf : CheckAnswer → Answer
+answerOf (Accepted inputs outputs instructions cells) = counts (inputs ∷ outputs ∷ instructions ∷ cells ∷ [])
+answerOf (Refused r) = refusalOf r
+
+-- the check counts the table
+abbrev pub IsAccepted : List ℕ → Type 0
+IsAccepted table = (ks : List ℕ) × (checked table ≡ counts ks)

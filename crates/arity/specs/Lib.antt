@@ -3,8 +3,9 @@ pub mod Table
 pub mod Rules
 pub mod WellFormed
 pub mod Nodes
+pub mod Lowest
 pub mod Check
-pub mod Checked
+pub mod Loose
 pub mod Survey
 pub mod Steps
 pub mod Formed

@@ -1,7 +1,7 @@
 -- What crates above this one use of the check:
--- `promise`, what holds of a table that it accepts; `rows`, what holds of the shape that its survey leaves; `recounted`, which takes a table that
--- `checked` counts for an accepted one. Beside these they cite the definitions that the three are made of, `checked` and `LoosePlace` among them, as
--- the refusals of the table come first in the results of walker, translator and exported check.
+-- `promise`, what holds of a table that it accepts; `rows`, what holds of the shape that its survey leaves; `recounted`, that the counts of an accepted
+-- table are those of its circuit. Beside these they cite the definitions that the three are made of, `checked` among them, as the refusals of the table
+-- come first in the results of walker, translator and exported check.
 use Prim.Native.Nat.{ℕ, _+_, _*_, _≤_, _<_}
 use mathlib.Core.Path.{_≡_}
 use mathlib.Core.List.{List, [], _∷_}
@@ -15,11 +15,8 @@ use Rattle.arity.specs.Table.{kindAt, firstAt, secondAt, nodes, tree, ci
 use Rattle.arity.specs.Rules.{Arity}
 use Rattle.arity.specs.WellFormed.{Times, WellFormed}
 use Rattle.arity.specs.Nodes.{Complete, subtree, cellsBefore}
-use Rattle.arity.specs.Check.{checked}
-use Rattle.arity.specs.Checked.{LoosePlace, Checked}
+use Rattle.arity.specs.Check.{checked, IsAccepted}
 use Rattle.arity.specs.Survey.{rowAt, surveyed}
-use Rattle.arity.specs.declared.CheckAnswer.{CheckAnswer}
-use Rattle.arity.specs.declared.CheckAnswer.the-variants.{Accepted}
 
 -- refusals 8, 10 and 11 of a circuit of n nodes do not apply
 pub record Small (n : ℕ) (t : Tree) : Type 0 where
@@ -69,17 +66,14 @@ pub record Promise (table : List ℕ) (inputs outputs instructions cells : ℕ) 
   pub complete : Complete (nodes table) (circuit table)
   pub small : instructions ≤ 2048 → cells ≤ 16384 → Small (nodes table) (circuit table)
   pub node : (i : ℕ) → i < nodes table → Node table i
-  -- the check's answer, whatever place refusal 9 would have
-  pub answer : (p : ℕ) → checked p table ≡ counts (inputs ∷ outputs ∷ instructions ∷ cells ∷ [])
 
 -- an accepted table keeps the promise; its entries are words
-abbrev pub Promised : List ℕ → CheckAnswer → (a b c d : ℕ) → Type 0
-Promised t o a b c d = Checked t o → o ≡ Accepted a b c d → Words t → Promise t a b c d
+abbrev pub Promised : List ℕ → (a b c d : ℕ) → Type 0
+Promised t a b c d = checked t ≡ counts (a ∷ b ∷ c ∷ d ∷ []) → Words t → Promise t a b c d
 
--- a table that `checked` counts is accepted, with the counts of its circuit
-abbrev pub Recounted : ℕ → (t ks : List ℕ) → Type 0
-Recounted p t ks = LoosePlace t p → checked p t ≡ counts ks
-    → Checked t (Accepted (ins (circuit t)) (outs (circuit t)) (need (circuit t)) (cellsBefore (circuit t) (nodes t)))
+-- the counts of an accepted table are those of its circuit
+abbrev pub Recounted : List ℕ → Type 0
+Recounted t = IsAccepted t → checked t ≡ counts (ins (circuit t) ∷ outs (circuit t) ∷ need (circuit t) ∷ cellsBefore (circuit t) (nodes t) ∷ [])
 
 -- the row of node i in the shape that a survey leaves of an accepted table
 pub record Shaped (table shape : List ℕ) (i : ℕ) : Type 0 where
@@ -88,5 +82,5 @@ pub record Shaped (table shape : List ℕ) (i : ℕ) : Type 0 where
   pub instructions : rowAt shape i .instructions ≡ need (tree table i)
   pub cell : rowAt shape i .cell ≡ cellsBefore (circuit table) i
 
-abbrev pub Rows : (t s s′ : List ℕ) → CheckAnswer → (a b c d : ℕ) → Type 0
-Rows t s s′ o a b c d = Checked t o → o ≡ Accepted a b c d → length s ≡ 2048 → s′ ≡ surveyed t s → (i : ℕ) → i < nodes t → Shaped t s′ i
+abbrev pub Rows : (t s s′ : List ℕ) → Type 0
+Rows t s s′ = IsAccepted t → length s ≡ 2048 → s′ ≡ surveyed t s → (i : ℕ) → i < nodes t → Shaped t s′ i

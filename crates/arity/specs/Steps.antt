@@ -89,8 +89,6 @@ abbrev pub Steps : List ℕ → ℕ → Stepped → (s shape marks : List ℕ) �
 Steps table i (Next cell) s shape marks = State table shape marks (suc i) × (cell ≡ firstCell table (suc i)) × (shape ≡ putRow s i (rowOf table i))
 Steps table i (Stop r) s shape marks = Refuses table i (refusalOf r) × (shape ≡ s)
 
--- r is the lowest unmarked one of n nodes but the last, or n where there is none
-pub record FoundLoose (marks : List ℕ) (n r : ℕ) : Type 0 where
-  pub within : r ≤ n
-  pub found : r < n → (suc r < n) × (getD marks r 0 ≡ 0)
-  pub lowest : (j : ℕ) → j < r → suc j < n → getD marks j 0 ≡ 0 → ⊥
+-- refusal 9 by the marks of n nodes
+unfoldable pub looseIn : List ℕ → ℕ → ℕ → Bool
+looseIn marks n p = ltb (suc p) n && eqb (getD marks p 0) 0

@@ -1,11 +1,13 @@
 -- The survey: four numbers a node that the check leaves in a lent buffer, its shape.
 use Prim.Native.Nat.{ℕ, zero, suc, _+_, _*_}
+use mathlib.Core.Bool.{Bool, not}
 use mathlib.Core.List.{List}
 use lib.ListN.{getD, set}
 use lib.Dec.{eqb, ltb}
 use Rattle.word.specs.Choice.{pick}
 use Rattle.arity.specs.Tree.{Tree, ins, outs, need}
 use Rattle.arity.specs.Table.{nodes, tree}
+use Rattle.arity.specs.Lowest.{lowest}
 use Rattle.arity.specs.Check.{refusalAt, firstCell, uneven}
 use Rattle.arity.specs.declared.rows.Row.{Row}
 
@@ -28,10 +30,12 @@ rowFor x cell = record { inputs = ins x; outputs = outs x; instructions = need x
 abbrev pub rowOf : List ℕ → ℕ → Row
 rowOf table j = rowFor (tree table j) (firstCell table j)
 
--- how many of n nodes from i on stand before the first refused one
-unfoldable pub passing : List ℕ → (n i : ℕ) → ℕ
-passing table zero i = 0
-passing table (suc n) i = pick (eqb (refusalAt table i) 0) (suc (passing table n (suc i))) 0
+-- the first refused node; the count of nodes where none is refused
+abbrev pub isRefused : List ℕ → ℕ → Bool
+isRefused table i = not (eqb (refusalAt table i) 0)
+
+abbrev pub firstRefused : List ℕ → ℕ
+firstRefused table = lowest (isRefused table) (nodes table) 0
 
 -- a shape with the rows of the first i nodes
 unfoldable pub filled : List ℕ → ℕ → List ℕ → List ℕ
@@ -40,4 +44,4 @@ filled table (suc i) shape = putRow (filled table i shape) i (rowOf table i)
 
 -- what the survey makes of a shape: a row for each node before the first refused one, none where the count of nodes is wrong; the rest stays
 unfoldable pub surveyed : List ℕ → List ℕ → List ℕ
-surveyed table shape = filled table (pick (uneven table) 0 (pick (ltb 512 (nodes table)) 0 (passing table (nodes table) 0))) shape
+surveyed table shape = filled table (pick (uneven table) 0 (pick (ltb 512 (nodes table)) 0 (firstRefused table))) shape

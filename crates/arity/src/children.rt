@@ -1,7 +1,8 @@
 // Refusals 6 and 9: which nodes are taken, one mark a node.
 ghost use mathlib.Core.Path.{_≡_};
 ghost use Prim.Native.Nat.{_≤_, _<_};
-ghost use Rattle.arity.specs.Steps.{freeIn, childrenIn, marking, FoundLoose};
+ghost use Rattle.arity.specs.Lowest.{lowest};
+ghost use Rattle.arity.specs.Steps.{freeIn, childrenIn, marking, looseIn};
 
 // A child is lower, and no node before has it.
 fn is_free(marks: &[u32; 512], node: usize, child: usize) -> bool
@@ -49,7 +50,7 @@ pub fn mark(kind: u32, marks: &mut [u32; 512], left: usize, right: usize)
 // The first of n nodes but the last that is not marked; n where there is none.
 pub fn find_loose(marks: &[u32; 512], n: usize) -> usize
     requires { ⌜ n ≤ 512 ⌝ }
-    ensures { λ r. ⌜ FoundLoose (now (marks .entry)) n r ⌝ }
+    ensures { λ r. ⌜ r ≡ lowest (looseIn (now (marks .entry)) n) n 0 ⌝ }
 {
     let mut i: usize = 0;
     while i + 1 < n {

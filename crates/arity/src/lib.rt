@@ -13,7 +13,7 @@ use refusal::Refusal;
 use rows::row_at;
 ghost use mathlib.Core.Path.{_≡_};
 ghost use lib.ListN.{length};
-ghost use Rattle.arity.specs.Checked.{Checked};
+ghost use Rattle.arity.specs.Check.{answerOf, checked};
 ghost use Rattle.arity.specs.Survey.{surveyed};
 
 pub enum CheckAnswer {
@@ -29,7 +29,7 @@ pub enum CheckAnswer {
 // The check, which leaves in `shape` four numbers for each node up to the first refused one: inputs, outputs, instructions and first cell.
 pub fn survey(table: &[u32], shape: &mut [u32; 2048]) -> CheckAnswer
     requires { ⌜ length (now shape) ≡ 2048 ⌝ }
-    ensures answer { λ r. ⌜ Checked (now (table .entry)) r ⌝ }
+    ensures answer { λ r. ⌜ answerOf r ≡ checked (now (table .entry)) ⌝ }
     ensures rows { λ r. ⌜ now (shape .exit) ≡ surveyed (now (table .entry)) (now (shape .entry)) ⌝ }
 {
     let count = table.len();
@@ -71,7 +71,7 @@ pub fn survey(table: &[u32], shape: &mut [u32; 2048]) -> CheckAnswer
 
 // Whether a table is a circuit, with its inputs, outputs, instructions and cells.
 pub fn check(table: &[u32]) -> CheckAnswer
-    ensures { λ r. ⌜ Checked (now (table .entry)) r ⌝ }
+    ensures { λ r. ⌜ answerOf r ≡ checked (now (table .entry)) ⌝ }
 {
     let mut shape = [0u32; 2048];
     survey(table, &mut shape)

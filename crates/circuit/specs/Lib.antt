@@ -1,4 +1,3 @@
 pub mod Encoded
 pub mod Report
-pub mod Calls
 pub mod Halves

@@ -21,6 +21,6 @@ reportedBy (counts ks) buffer =
     (outcome (refusedAll 12) buffer)
 reportedBy (refused r p) buffer = outcome (refused r p) buffer
 
--- the complete result of a check; p is the place with refusal 9
-unfoldable pub reporting : ℕ → List ℕ → List ℕ → Outcome
-reporting p table = reportedBy (checked p table)
+-- the complete result of a check
+unfoldable pub reporting : List ℕ → List ℕ → Outcome
+reporting table = reportedBy (checked table)

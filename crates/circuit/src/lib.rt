@@ -12,9 +12,11 @@ ghost use mathlib.Core.Path.{_≡_};
 ghost use Rattle.refusal.specs.Answer.{refusalOf};
 ghost use Rattle.cells.specs.Load.{loaded};
 ghost use Rattle.column.specs.File.{reading, writing};
+ghost use Rattle.walker.specs.Walk.{walkedTable};
+ghost use Rattle.translator.specs.Translate.{translatedTable};
 ghost use Rattle.flat.specs.Run.{ran};
 ghost use Rattle.circuit.specs.Encoded.{encoded};
-ghost use Rattle.circuit.specs.Calls.{ExportedCheck, ExportedTranslate, ExportedWalk};
+ghost use Rattle.circuit.specs.Report.{reporting};
 
 // The upper half of an answer begins here.
 const UPPER: u64 = 4294967296;
@@ -29,7 +31,8 @@ fn refused(refusal: Refusal) -> u64
 // The check: inputs, outputs, instructions and cells into the first four of counts.
 #[no_mangle]
 pub extern "C" fn circuit_check(table: &[u32], counts: &mut [u32]) -> u64
-    ensures { λ r. ⌜ ExportedCheck (now (table .entry)) (now (counts .entry)) r (now (counts .exit)) ⌝ }
+    ensures answer { λ r. ⌜ r ≡ encoded (reporting (now (table .entry)) (now (counts .entry)) .answer) ⌝ }
+    ensures counts { λ _. ⌜ now (counts .exit) ≡ reporting (now (table .entry)) (now (counts .entry)) .buffer ⌝ }
 {
     let answer = arity::check(table);
     match answer {
@@ -81,7 +84,8 @@ pub extern "C" fn circuit_write(table: &[u32], file: &mut [u8]) -> u64
 // The translator: a table into flat code.
 #[no_mangle]
 pub extern "C" fn circuit_translate(table: &[u32], code: &mut [u32]) -> u64
-    ensures { λ r. ⌜ ExportedTranslate (now (table .entry)) (now (code .entry)) r (now (code .exit)) ⌝ }
+    ensures answer { λ r. ⌜ r ≡ encoded (translatedTable (now (table .entry)) (now (code .entry)) .answer) ⌝ }
+    ensures code { λ _. ⌜ now (code .exit) ≡ translatedTable (now (table .entry)) (now (code .entry)) .buffer ⌝ }
 {
     let answer = translator::translate(table, code);
     match answer {
@@ -113,7 +117,9 @@ pub extern "C" fn circuit_walk(
     cells: &mut [u32],
     outputs: &mut [u32],
 ) -> u64
-    ensures { λ r. ⌜ ExportedWalk (now (table .entry)) ticks (now (inputs .entry)) (now (controls .entry)) (now (cells .entry)) (now (outputs .entry)) r (now (cells .exit)) (now (outputs .exit)) ⌝ }
+    ensures answer { λ r. ⌜ r ≡ encoded (walkedTable (now (table .entry)) ticks (now (inputs .entry)) (now (controls .entry)) (now (cells .entry)) (now (outputs .entry)) .answer) ⌝ }
+    ensures cells { λ _. ⌜ now (cells .exit) ≡ walkedTable (now (table .entry)) ticks (now (inputs .entry)) (now (controls .entry)) (now (cells .entry)) (now (outputs .entry)) .cells ⌝ }
+    ensures outputs { λ _. ⌜ now (outputs .exit) ≡ walkedTable (now (table .entry)) ticks (now (inputs .entry)) (now (controls .entry)) (now (cells .entry)) (now (outputs .entry)) .outputs ⌝ }
 {
     let answer = walker::walk(table, ticks, inputs, controls, cells, outputs);
     match answer {

@@ -12,16 +12,16 @@ use Rattle.column.specs.Line.{lineFeed}
 use Rattle.flat.proofs.Decoded.{code-header}
 use Rattle.translator.specs.declared.TranslateAnswer.{TranslateAnswer}
 use Rattle.translator.specs.declared.TranslateAnswer.the-variants.{Numbers}
-use Rattle.translator.specs.Translate.{answerOf, Translates}
-use Rattle.translator.proofs.Delivered.{delivered-passes}
-use Rattle.listing.proofs.Tables.{is-within}
+use Rattle.refusal.specs.Outcome.{outcome}
+use Rattle.translator.specs.Translate.{answerOf, translatedTable}
+use Rattle.listing.proofs.Tables.{is-within, code-passes}
 use Rattle.player.specs.Samples.{circuitPart, samplesPart}
 use Rattle.player.proofs.Parts.{input-parts}
 use Rattle.console.specs.Coded.{Coded}
 
-pub coded : {table code : List ℕ} {a : TranslateAnswer} {code′ : List ℕ} → Translates table code a code′ → (n : ℕ) → a ≡ Numbers n → Words table → length code′ ≡ length code → (r : ℕ) → r ≡ n → Coded code′ r
-coded {table} {code} {a} {code′} t n e w l r f =
-    rw f (record { within = omega (arith, is-within t n e); head = λ h. code-header (take n code′) (delivered-passes t n (ap answerOf e) w) })
+pub coded : (table code : List ℕ) {a : TranslateAnswer} {code′ : List ℕ} → outcome (answerOf a) code′ ≡ translatedTable table code → (n : ℕ) → a ≡ Numbers n → Words table → length code′ ≡ length code → (r : ℕ) → r ≡ n → Coded code′ r
+coded table code {a} {code′} t n e w l r f =
+    rw f (record { within = omega (arith, is-within table code t n e); head = λ h. code-header (take n code′) (code-passes table code t n e w) })
 
 pub uncoded : (code : List ℕ) → Coded code 0
 uncoded code = record { within = omega arith; head = λ h. absurd (omega arith) }

@@ -1,25 +1,24 @@
 -- Demand 3 at its borders: a premise that asked for more would fail here, and so would a conclusion that said less.
 use Prim.Native.Nat.{ℕ, _≤_}
-use mathlib.Core.Path.{_≡_, refl}
-use mathlib.Core.List.{List, []}
+use mathlib.Core.Path.{_≡_}
+use mathlib.Core.List.{List, [], _∷_}
 use native.Mathlib.Omega.{arith}
 use lib.IntN.{ℤ}
 use lib.ListN.{take}
 use Rattle.word.specs.Tick.{Words}
 use Rattle.refusal.specs.Answer.{count}
-use Rattle.refusal.specs.Answer.Answer.{refused}
+use Rattle.refusal.specs.Answer.Answer.{counts, refused}
+use Rattle.refusal.specs.Outcome.{outcome}
 use Rattle.cells.specs.Load.{loaded}
-use Rattle.arity.specs.declared.CheckAnswer.the-variants.{Accepted}
 use Rattle.arity.specs.Table.{nodes, circuit}
-use Rattle.arity.specs.Checked.{Checked}
+use Rattle.arity.specs.Check.{checked}
 use Rattle.arity.proofs.Borders.{fourDelays, four-delays-accepted, four-delays-words, integrator, integrator-accepted, integrator-words, ondemandCable, ondemand-accepted, ondemand-words}
 use Rattle.arity.proofs.Promise.{promise}
 use Rattle.signal.specs.Signal.{History}
 use Rattle.calls.specs.Calls.{Arguments, Element, OthersRefused}
 use Rattle.calls.specs.Law.{HoldsPast, LawfulThroughout}
-use Rattle.translator.specs.declared.TranslateAnswer.the-variants.{Numbers}
 use Rattle.translator.specs.Translated.{translated}
-use Rattle.translator.specs.Translate.{Translates}
+use Rattle.translator.specs.Translate.{translatedTable}
 use Rattle.engine.specs.Runs.{runOf}
 use Rattle.engine.specs.Demand3.{Runnable}
 use Rattle.engine.proofs.Demand3.{demand-3, runs-go-on, no-13, delivered-runs}
@@ -30,11 +29,11 @@ LawfulRuns table named = (cells : List ℕ) → loaded named cells .answer ≡ c
     → (list : List Element) → OthersRefused (runOf (translated table)) 0 (loaded named cells .buffer) list
     → LawfulThroughout (nodes table) (circuit table) (runOf (translated table)) 0 [] (loaded named cells .buffer) list
 
-runnable : (table : List ℕ) (n m i d : ℕ) → Checked table (Accepted n m i d) → Words table → i ≤ 2048 → d ≤ 16384 → Runnable table d
+runnable : (table : List ℕ) (n m i d : ℕ) → checked table ≡ counts (n ∷ m ∷ i ∷ d ∷ []) → Words table → i ≤ 2048 → d ≤ 16384 → Runnable table d
 runnable table n m i d k w s f = record { inputs = n; outputs = m; instructions = i; accepted = k; words = w; short = s; few = f }
 
 -- 2,048 instructions and 16,384 cells, and a load that named just these
-module _ (table : List ℕ) (n m : ℕ) (k : Checked table (Accepted n m 2048 16384)) (w : Words table) where
+module _ (table : List ℕ) (n m : ℕ) (k : checked table ≡ counts (n ∷ m ∷ 2048 ∷ 16384 ∷ [])) (w : Words table) where
   largest : Runnable table 16384
   largest = runnable table n m 2048 16384 k w (omega arith) (omega arith)
 
@@ -57,11 +56,11 @@ pub integrator-lawful : LawfulRuns integrator 1
 integrator-lawful cells e = demand-3 integrator 1 (runnable integrator 1 1 3 1 integrator-accepted integrator-words (omega arith) (omega arith)) 1 cells e (omega arith)
 
 -- the same of the 20 numbers that `translate` has written
-integrator-delivered : (code code′ : List ℕ) → Translates integrator code (Numbers 20) code′ → (cells : List ℕ) → loaded 1 cells .answer ≡ count 1
+integrator-delivered : (code code′ : List ℕ) → outcome (count 20) code′ ≡ translatedTable integrator code → (cells : List ℕ) → loaded 1 cells .answer ≡ count 1
     → (list : List Element) → OthersRefused (runOf (take 20 code′)) 0 (loaded 1 cells .buffer) list
     → LawfulThroughout (nodes integrator) (circuit integrator) (runOf (take 20 code′)) 0 [] (loaded 1 cells .buffer) list
 integrator-delivered code code′ t cells e =
-    delivered-runs integrator code code′ (Numbers 20) t 20 refl integrator-words 1 cells e (omega (arith, promise integrator-accepted refl integrator-words .celled))
+    delivered-runs integrator code code′ 20 t integrator-words 1 cells e (omega (arith, promise integrator-accepted integrator-words .celled))
 
 -- an ondemand cable, and a load that named its one cell
 pub ondemand-lawful : LawfulRuns ondemandCable 1

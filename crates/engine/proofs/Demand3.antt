@@ -1,6 +1,6 @@
 -- Demand 3, proved for every table.
 use Prim.Native.Nat.{ℕ, _*_}
-use mathlib.Core.Path.{_≡_, refl, sym, ap, _∙_}
+use mathlib.Core.Path.{_≡_, sym, ap, _∙_}
 use mathlib.Core.Bool.{Bool, true, false}
 use mathlib.Core.List.{List}
 use native.Mathlib.Omega.{arith}
@@ -33,7 +33,7 @@ refused-run code a from cells x p e = record { number = x; place = p; nothing = 
 
 module _ (table : List ℕ) (d : ℕ) (r : Runnable table d) where
   p : Promise table (r .inputs) (r .outputs) (r .instructions) d
-  p = promise (r .accepted) refl (r .words)
+  p = promise (r .accepted) (r .words)
 
   own-run : IsProgramOf (nodes table) (circuit table) (runOf (translated table))
   unfolding translated
@@ -58,7 +58,7 @@ no-13 table d r a cells q g =
     go false y h = let z : _≡_ {A = ℕ} 14 13 = cc in omega arith
 
 pub delivered-runs : (table : List ℕ) → DeliveredRuns table
-delivered-runs table code code′ a t c e words =
-    let d = is-delivered t c e in
-    let r : Runnable table _ = record { inputs = _; outputs = _; instructions = _; accepted = was-accepted t c e; words = words; short = d .short; few = d .few } in
-    rw (delivered t c e words) (demand-3 table _ r)
+delivered-runs table code code′ c t words =
+    let d = is-delivered table code t in
+    let r : Runnable table _ = record { inputs = _; outputs = _; instructions = _; accepted = was-accepted table code t; words = words; short = d .short; few = d .few } in
+    rw (delivered table code t words) (demand-3 table _ r)

@@ -58,7 +58,7 @@ between =
     own without-cells
     ∷ own (arguments 2 (1 ∷ []) (0 ∷ 0 ∷ []) 2)
     ∷ other (loadCall 16385 0 1)
-    ∷ other (walkCall 0 [] first 0)
+    ∷ other (walkCall [] first 0)
     ∷ other (runCall [] first 1)
     ∷ own last
     ∷ []
@@ -72,7 +72,7 @@ block = loaded 1 (7 ∷ 9 ∷ []) .buffer
 
 others-refused : OthersRefused program 0 block list
 unfolding OthersRefused loaded walkedTable checked ran codeOk
-others-refused = (tt, (tt, (tt, (refused-load 16385 0 1 _ 11 noPlace refl, (refused-walk [] first _ 3 (pos 0) 0 0 refl, (refused-run [] first 1 _ 13 noPlace refl, (tt, tt)))))))
+others-refused = (tt, (tt, (tt, (refused-load 16385 0 1 _ 11 noPlace refl, (refused-walk [] first _ 3 (pos 0) 0 refl, (refused-run [] first 1 _ 13 noPlace refl, (tt, tt)))))))
 
 lawful : LawfulThroughout (nodes integrator) (circuit integrator) program 0 [] block list
 unfolding loaded

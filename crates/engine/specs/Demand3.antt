@@ -1,22 +1,21 @@
 -- Demand 3: "a single claim about the whole list of runs".
 use Prim.Native.Nat.{ℕ, _≤_}
 use mathlib.Core.Path.{_≡_}
-use mathlib.Core.List.{List}
+use mathlib.Core.List.{List, [], _∷_}
 use lib.IntN.{ℤ}
 use lib.ListN.{take}
 use Rattle.word.specs.Tick.{Words}
 use Rattle.refusal.specs.Answer.{count}
-use Rattle.refusal.specs.Answer.Answer.{refused}
-use Rattle.arity.specs.declared.CheckAnswer.the-variants.{Accepted}
+use Rattle.refusal.specs.Answer.Answer.{counts, refused}
+use Rattle.refusal.specs.Outcome.{outcome}
 use Rattle.arity.specs.Table.{nodes, circuit}
 use Rattle.arity.specs.Nodes.{cellsBefore}
-use Rattle.arity.specs.Checked.{Checked}
+use Rattle.arity.specs.Check.{checked}
 use Rattle.calls.specs.Calls.{Arguments}
 use Rattle.calls.specs.Law.{LawfulFromPast}
 use Rattle.calls.specs.Loads.{LawfulFromLoad}
-use Rattle.translator.specs.declared.TranslateAnswer.{TranslateAnswer}
 use Rattle.translator.specs.Translated.{translated}
-use Rattle.translator.specs.Translate.{answerOf, Translates}
+use Rattle.translator.specs.Translate.{translatedTable}
 use Rattle.engine.specs.Runs.{runOf}
 
 -- "Take any accepted table whose translation needs at most 2,048 instructions and 16,384 cells"
@@ -24,7 +23,7 @@ pub record Runnable (table : List ℕ) (cells : ℕ) : Type 0 where
   pub inputs : ℕ
   pub outputs : ℕ
   pub instructions : ℕ
-  pub accepted : Checked table (Accepted inputs outputs instructions cells)
+  pub accepted : checked table ≡ counts (inputs ∷ outputs ∷ instructions ∷ cells ∷ [])
   pub words : Words table
   pub short : instructions ≤ 2048
   pub few : cells ≤ 16384
@@ -44,5 +43,5 @@ Never13 table = (d : ℕ) → Runnable table d → (a : Arguments) (cells : List
 
 -- demand 3 of the numbers that `translate` has written, wherever it answers with a count
 abbrev pub DeliveredRuns : List ℕ → Type 0
-DeliveredRuns table = (code code′ : List ℕ) (a : TranslateAnswer) → Translates table code a code′ → (c : ℕ) → answerOf a ≡ count c → Words table
+DeliveredRuns table = (code code′ : List ℕ) (c : ℕ) → outcome (count c) code′ ≡ translatedTable table code → Words table
     → LawfulFromLoad (nodes table) (circuit table) (runOf (take c code′)) (cellsBefore (circuit table) (nodes table))

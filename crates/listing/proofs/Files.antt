@@ -19,10 +19,9 @@ use Rattle.column.specs.File.{fileRefusal, tableOf, reading}
 use Rattle.column.proofs.Refusing.{read-counted}
 use Rattle.column.proofs.Storing.{file-right, numbers-length}
 use Rattle.column.proofs.FileText.{lines-few}
-use Rattle.column.specs.Put.{Put}
-use Rattle.column.proofs.Stores.{begins-of, begins-within}
-use Rattle.listing.specs.Print.{refusalText, fileText, Printed}
-use Rattle.listing.specs.Steps.{PrintedTable}
+use Rattle.column.specs.Put.{Put, Begins}
+use Rattle.column.proofs.Stores.{begins-of}
+use Rattle.listing.specs.Print.{refusalText, tableText, fileText}
 
 module _ (file table : List ℕ) (a : ReadAnswer) (table′ : List ℕ) (q : outcome (readAnswer a) table′ ≡ reading file table) where
   answered : readAnswer a ≡ reading file table .answer
@@ -40,15 +39,9 @@ module _ (file table : List ℕ) (a : ReadAnswer) (table′ : List ℕ) (q : out
           absurd (let z : _≡_ {A = ℕ} 0 1 = cc s in omega arith)
       go (some x) f = let s : refusalOf r ≡ x = rw (e, f) at answered in f ∙ ap (λ (y : Answer). some y) (sym s)
 
-  pub file-refused : 1536 ≤ length table → (r : Refusal) → a ≡ Refused r → {text : List ℕ} {n : ℕ} {text′ : List ℕ} → Put (refusalText (numberOf r) (placeOf r)) text 0 n text′ → Printed file text n text′
+  pub file-refused : 1536 ≤ length table → (r : Refusal) → a ≡ Refused r → {text : List ℕ} {n : ℕ} {text′ : List ℕ} → Put (refusalText (numberOf r) (placeOf r)) text 0 n text′ → Begins (fileText file) text n text′
   unfolding fileText
-  file-refused h r e {text} {n} {text′} p =
-      let f : fileRefusal file ≡ some (refusalOf r) = lines-refused h r e in
-      record {
-        place = 0;
-        isLoose = λ g. absurd (let s : some (refusalOf r) ≡ none = sym f ∙ g in let z : _≡_ {A = ℕ} 0 1 = cc s in omega arith);
-        begins = rw f (begins-of (refusalText (numberOf r) (placeOf r)) text n text′ p);
-      }
+  file-refused h r e {text} {n} {text′} p = rw (lines-refused h r e) (begins-of (refusalText (numberOf r) (placeOf r)) text n text′ p)
 
   module _ (k : ℕ) (e : a ≡ Nodes k) where
     read : (fileRefusal file ≡ none) × ((length (lines file) ≡ k) × (reading file table .buffer ≡ tableOf (lines file) ++ drop (3 * k) table))
@@ -63,13 +56,8 @@ module _ (file table : List ℕ) (a : ReadAnswer) (table′ : List ℕ) (q : out
     pub read-within : 3 * k ≤ length table′
     read-within = let l : length (tableOf (lines file) ++ drop (3 * k) table) ≡ _ = length-append (tableOf (lines file)) (drop (3 * k) table) in rw filled (omega (arith, counted))
 
-    pub file-printed : (c : ℕ) → c ≡ 3 * k → {text : List ℕ} {n : ℕ} {text′ : List ℕ} → PrintedTable (take c table′) text n text′ → Printed file text n text′
+    pub file-printed : (c : ℕ) → c ≡ 3 * k → {text : List ℕ} {n : ℕ} {text′ : List ℕ} → Begins (tableText (take c table′)) text n text′ → Begins (fileText file) text n text′
     unfolding fileText
     file-printed c f {text} {n} {text′} p =
         let t : take c table′ ≡ tableOf (lines file) = rw (f, filled) (take-at (tableOf (lines file)) (drop (3 * k) table) (3 * k) counted) in
-        let s : PrintedTable (tableOf (lines file)) text n text′ = rw t at p in
-        record { place = s .place; isLoose = λ g. s .isLoose; begins = rw (read .0) (s .begins) }
-
--- what a print counts lies within the buffer
-pub printed-within : (file text : List ℕ) (n : ℕ) (text′ : List ℕ) → Printed file text n text′ → n ≤ length text′
-printed-within file text n text′ p = begins-within (p .begins)
+        rw (read .0, ← t) p

@@ -1,6 +1,5 @@
 -- "The translator's print"
 use Prim.Native.Nat.{ℕ, zero, suc}
-use mathlib.Core.Path.{_≡_}
 use mathlib.Core.List.{List, [], _∷_, _++_, map}
 use mathlib.Core.Option.{Option, none, some}
 use lib.IntN.{ℤ}
@@ -11,8 +10,6 @@ use Rattle.refusal.specs.Answer.{Answer}
 use Rattle.refusal.specs.Answer.Answer.{counts, refused}
 use Rattle.column.specs.Line.{lineFeed, columns, lines}
 use Rattle.column.specs.File.{fileRefusal, tableOf}
-use Rattle.column.specs.Put.{Begins}
-use Rattle.arity.specs.Checked.{LoosePlace}
 use Rattle.flat.specs.Flat.{width}
 use Rattle.flat.specs.Code.{header, instructionCount, outputCount, resultsAt}
 use Rattle.refusal.specs.Outcome.{Outcome}
@@ -49,9 +46,9 @@ mostNumbers = 10276
 abbrev pub outcomeText : Outcome → List ℕ
 outcomeText o = answerText (o .answer) (o .buffer)
 
--- the print of a table; p is the place with refusal 9
-unfoldable pub tableText : ℕ → List ℕ → List ℕ
-tableText p table = outcomeText (translatedTable p table (zeros mostNumbers))
+-- the print of a table
+unfoldable pub tableText : List ℕ → List ℕ
+tableText table = outcomeText (translatedTable table (zeros mostNumbers))
 
 -- the refusal of the lines, where there is one
 abbrev pub unlessRefused : Option Answer → List ℕ → List ℕ
@@ -59,11 +56,5 @@ unlessRefused none text = text
 unlessRefused (some a) text = answerText a []
 
 -- "A program reads a column file .. and prints the code"
-unfoldable pub fileText : ℕ → List ℕ → List ℕ
-fileText p file = unlessRefused (fileRefusal file) (tableText p (tableOf (lines file)))
-
--- the buffer holds the print of a file, with some loose node as the place of refusal 9
-pub record Printed (file text : List ℕ) (n : ℕ) (text′ : List ℕ) : Type 0 where
-  pub place : ℕ
-  pub isLoose : fileRefusal file ≡ none → LoosePlace (tableOf (lines file)) place
-  pub begins : Begins (fileText place file) text n text′
+unfoldable pub fileText : List ℕ → List ℕ
+fileText file = unlessRefused (fileRefusal file) (tableText (tableOf (lines file)))

@@ -2,10 +2,8 @@
 use Prim.Native.Nat.{ℕ, zero, suc, _+_, _≤_}
 use mathlib.Core.List.{List}
 use lib.ListN.{length, drop}
-use Rattle.column.specs.Put.{Begins}
-use Rattle.arity.specs.Checked.{LoosePlace}
 use Rattle.flat.specs.Steps.{Header}
-use Rattle.listing.specs.Print.{rows, tableText}
+use Rattle.listing.specs.Print.{rows}
 
 -- there are k times w numbers
 abbrev pub Full : (w k : ℕ) → List ℕ → Type 0
@@ -21,9 +19,3 @@ pub record Rows (numbers : List ℕ) (w k : ℕ) (text : List ℕ) (from : ℕ) 
 pub record Listable (code text : List ℕ) : Type 0 where
   pub head : Header code
   pub room : 125393 ≤ length text
-
--- the buffer holds the print of a table
-pub record PrintedTable (table text : List ℕ) (n : ℕ) (text′ : List ℕ) : Type 0 where
-  pub place : ℕ
-  pub isLoose : LoosePlace table place
-  pub begins : Begins (tableText place table) text n text′

@@ -7,9 +7,9 @@ use word::index;
 ghost use Prim.Native.Nat.{_+_, _*_, _≤_};
 ghost use lib.ListN.{length};
 ghost use Rattle.refusal.specs.Refusals.{numberOf, placeOf};
-ghost use Rattle.listing.specs.Print.{line, rows, codeText, refusalText, Printed};
-ghost use Rattle.column.specs.Put.{Put};
-ghost use Rattle.listing.specs.Steps.{Rows, Listable, PrintedTable};
+ghost use Rattle.listing.specs.Print.{line, rows, codeText, refusalText, tableText, fileText};
+ghost use Rattle.column.specs.Put.{Put, Begins};
+ghost use Rattle.listing.specs.Steps.{Rows, Listable};
 
 // Numbers in 12 columns each and a line feed, from `from` on; gives where the next line begins.
 fn put_line(numbers: &[u32], text: &mut [u8], from: usize) -> usize
@@ -63,7 +63,7 @@ pub fn put_refusal(refusal: Refusal, text: &mut [u8]) -> usize
 // The print of a table.
 fn print_table(table: &[u32], text: &mut [u8]) -> usize
     requires { ⌜ 125393 ≤ length (now text) ⌝ }
-    ensures { λ r. ⌜ PrintedTable (now (table .entry)) (now (text .entry)) r (now (text .exit)) ⌝ }
+    ensures { λ r. ⌜ Begins (tableText (now (table .entry))) (now (text .entry)) r (now (text .exit)) ⌝ }
 {
     let mut code = [0u32; 10276];
     let answer = translator::translate(table, &mut code);
@@ -78,7 +78,7 @@ fn print_table(table: &[u32], text: &mut [u8]) -> usize
 
 // The print of a column file; gives how many bytes it has.
 pub fn print(file: &[u8], text: &mut [u8; 125393]) -> usize
-    ensures { λ r. ⌜ Printed (now (file .entry)) (now (text .entry)) r (now (text .exit)) ⌝ }
+    ensures { λ r. ⌜ Begins (fileText (now (file .entry))) (now (text .entry)) r (now (text .exit)) ⌝ }
 {
     let mut table = [0u32; 1536];
     let answer = column::read(file, &mut table);

@@ -21,7 +21,7 @@ pub enum Refusal {
     NoArityRule(u32),
     // 8: inputs or outputs above 32
     TooWide(u32),
-    // 9: a node other than the last that is nobody's child
+    // 9: a node other than the last that is nobody's child, of several the lowest
     LooseNode(u32),
     // 10: more than 2,048 instructions
     TooManyInstructions,

@@ -8,6 +8,8 @@ use lib.Dec.{lit≤}
 use lib.ListN.{length, take, drop-of-length-le}
 use Rattle.word.specs.Operation.{operands}
 use Rattle.word.specs.Tick.{tick}
+use Rattle.refusal.specs.Answer.{count}
+use Rattle.refusal.specs.Outcome.{outcome}
 use Rattle.arity.specs.Tree.{Tree, ins, outs, need}
 use Rattle.arity.specs.Tree.Tree.{leaf}
 use Rattle.arity.specs.Tree.Primitive.{delay}
@@ -19,8 +21,7 @@ use Rattle.calls.specs.Step.{step}
 use Rattle.flat.specs.Code.{encode, decode, codeTick}
 use Rattle.flat.specs.Check.{instructionOk, instructionsOk, codeOk}
 use Rattle.translator.specs.Translated.{translation, translated}
-use Rattle.translator.specs.Translate.{numbersOf, Translates}
-use Rattle.translator.specs.declared.TranslateAnswer.the-variants.{Numbers}
+use Rattle.translator.specs.Translate.{numbersOf, translatedTable}
 use Rattle.translator.proofs.Ticks.{tick-right}
 use Rattle.translator.proofs.Checked.{translation-ok}
 use Rattle.translator.proofs.Delivered.{is-delivered, delivered}
@@ -39,9 +40,9 @@ largest-passes : (n : ℕ) (t : Tree) → WellFormed t → Complete n t → ins 
 largest-passes n t w c i o k d = translation-ok n t w c (omega arith) (omega arith) (omega arith) (omega arith)
 
 -- a buffer with no number to spare: nothing of its content is left
-exact-delivered : {table code code′ : List ℕ} → Translates table code (Numbers (length code)) code′ → code′ ≡ translated table
-exact-delivered {table} {code} t =
-    let d = is-delivered t (length code) refl in
+exact-delivered : (table code : List ℕ) {code′ : List ℕ} → outcome (count (length code)) code′ ≡ translatedTable table code → code′ ≡ translated table
+exact-delivered table code t =
+    let d = is-delivered table code t in
     d .is ∙ ap (λ l. translated table ++ l) (drop-of-length-le code {i = numbersOf table} (omega (arith, d .counted))) ∙ append-nil (translated table)
 
 -- the integrator's code, as the document prints it
@@ -58,8 +59,8 @@ integrator-code : translated integrator ≡ printed
 unfolding translated tree operands
 integrator-code = refl
 
-integrator-delivered : {code code′ : List ℕ} → Translates integrator code (Numbers 20) code′ → take 20 code′ ≡ printed
-integrator-delivered t = delivered t 20 refl integrator-words ∙ integrator-code
+integrator-delivered : (code : List ℕ) {code′ : List ℕ} → outcome (count 20) code′ ≡ translatedTable integrator code → take 20 code′ ≡ printed
+integrator-delivered code t = delivered integrator code t integrator-words ∙ integrator-code
 
 integrator-passes : codeOk printed ≡ true
 unfolding codeOk decode instructionsOk instructionOk operands

@@ -1,8 +1,8 @@
 -- What `translate` has written when it answers a count: the table was accepted within the limits, and the buffer begins with its code.
 use Prim.Native.Nat.{ℕ}
-use mathlib.Core.Path.{_≡_, refl, sym, ap, _∙_}
+use mathlib.Core.Path.{_≡_, refl, ap}
 use mathlib.Core.Bool.{Bool, true, false}
-use mathlib.Core.List.{List, _++_}
+use mathlib.Core.List.{List, [], _∷_, _++_}
 use native.Mathlib.Omega.{arith}
 use borrow.Author.Tests.{leb-true}
 use lib.Dec.{leb}
@@ -12,18 +12,15 @@ use Rattle.word.specs.Choice.{pick}
 use Rattle.word.specs.Tick.{Words}
 use Rattle.refusal.specs.Answer.{Answer, count, refusedAll}
 use Rattle.refusal.specs.Answer.Answer.{counts, refused}
-use Rattle.arity.specs.declared.CheckAnswer.the-variants.{Accepted}
 use Rattle.arity.specs.Tree.{ins, outs, need}
 use Rattle.arity.specs.Table.{nodes, circuit}
 use Rattle.arity.specs.Nodes.{cellsBefore}
-use Rattle.arity.specs.Check.{checked}
-use Rattle.arity.specs.Checked.{Checked}
+use Rattle.arity.specs.Check.{checked, IsAccepted}
 use Rattle.arity.proofs.Promise.{recounted, promise}
 use Rattle.flat.specs.Check.{codeOk}
-use Rattle.translator.specs.declared.TranslateAnswer.{TranslateAnswer}
 use Rattle.translator.specs.Translated.{translated}
 use Rattle.refusal.specs.Outcome.{Outcome, outcome}
-use Rattle.translator.specs.Translate.{answerOf, numbersOf, translates, translatedBy, translatedTable, Translates}
+use Rattle.translator.specs.Translate.{numbersOf, translates, translatedBy, translatedTable}
 use Rattle.translator.specs.Laws.{DeliversCode, Delivered}
 use Rattle.translator.proofs.Checked.{encoded-length, translation-ok}
 
@@ -53,37 +50,34 @@ translates-counted table code n code′ = go _ _ _ refl refl refl
     go true false w x y z e = absurd (never n 11 code code′ e)
     go false v w x y z e = absurd (never n 10 code code′ e)
 
-module _ {table code : List ℕ} {a : TranslateAnswer} {code′ : List ℕ} (t : Translates table code a code′) (n : ℕ) (e : answerOf a ≡ count n) where
-  result : outcome (count n) code′ ≡ translatedTable (t .place) table code
-  result = ap (λ (x : Answer). outcome x code′) (sym e) ∙ t .result
-
-  is-counted : (ks : List ℕ) × (checked (t .place) table ≡ counts ks)
+module _ (table code : List ℕ) {n : ℕ} {code′ : List ℕ} (t : outcome (count n) code′ ≡ translatedTable table code) where
+  is-accepted : IsAccepted table
   unfolding translatedTable
-  is-counted = go (checked (t .place) table) refl result
+  is-accepted = go (checked table) refl t
     where
-      go : (x : Answer) → checked (t .place) table ≡ x → outcome (count n) code′ ≡ translatedBy x table code → (ks : List ℕ) × (checked (t .place) table ≡ counts ks)
+      go : (x : Answer) → checked table ≡ x → outcome (count n) code′ ≡ translatedBy x table code → IsAccepted table
       go (counts ks) f r = (ks, f)
       go (refused k q) f r = absurd (let b : count n ≡ refused k q = ap (λ (o : Outcome). o .answer) r in let z : _≡_ {A = ℕ} 0 1 = cc b in omega arith)
 
   pub is-delivered : Delivered table code n code′
   unfolding translatedTable
-  is-delivered = translates-counted table code n code′ (rw (is-counted .1) at result)
+  is-delivered = translates-counted table code n code′ (rw (is-accepted .1) at t)
 
-  pub was-accepted : Checked table (Accepted (ins (circuit table)) (outs (circuit table)) (need (circuit table)) (cellsBefore (circuit table) (nodes table)))
-  was-accepted = recounted (t .place) table (is-counted .0) (t .isLoose) (is-counted .1)
+  pub was-accepted : checked table ≡ counts (ins (circuit table) ∷ outs (circuit table) ∷ need (circuit table) ∷ cellsBefore (circuit table) (nodes table) ∷ [])
+  was-accepted = recounted table is-accepted
 
-pub delivered : {table code : List ℕ} {a : TranslateAnswer} {code′ : List ℕ} → DeliversCode table code a code′
+pub delivered : (table code : List ℕ) {n : ℕ} {code′ : List ℕ} → DeliversCode table code n code′
 unfolding translated
-delivered {table} {code} t n e words =
-    let d = is-delivered t n e in
-    let long : length (translated table) ≡ numbersOf table = encoded-length (nodes table) (circuit table) (promise (was-accepted t n e) refl words .wellFormed) in
+delivered table code t words =
+    let d = is-delivered table code t in
+    let long : length (translated table) ≡ numbersOf table = encoded-length (nodes table) (circuit table) (promise (was-accepted table code t) words .wellFormed) in
     rw (d .is, d .counted) (take-at (translated table) (drop (numbersOf table) code) (numbersOf table) long)
 
 -- refusal 13 never
-pub delivered-passes : {table code : List ℕ} {a : TranslateAnswer} {code′ : List ℕ} → Translates table code a code′ → (n : ℕ) → answerOf a ≡ count n → Words table → codeOk (take n code′) ≡ true
+pub delivered-passes : (table code : List ℕ) {n : ℕ} {code′ : List ℕ} → outcome (count n) code′ ≡ translatedTable table code → Words table → codeOk (take n code′) ≡ true
 unfolding translated
-delivered-passes {table} t n e words =
-    let p = promise (was-accepted t n e) refl words in
-    let d = is-delivered t n e in
+delivered-passes table code t words =
+    let p = promise (was-accepted table code t) words in
+    let d = is-delivered table code t in
     let s = p .small (d .short) (d .few) in
-    rw (delivered t n e words) (translation-ok (nodes table) (circuit table) (p .wellFormed) (p .complete) (s .inputs) (s .outputs) (s .instructions) (s .cells))
+    rw (delivered table code t words) (translation-ok (nodes table) (circuit table) (p .wellFormed) (p .complete) (s .inputs) (s .outputs) (s .instructions) (s .cells))

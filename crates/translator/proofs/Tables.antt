@@ -11,11 +11,10 @@ use lib.Seq.{length-sets, sets-eq}
 use Rattle.word.specs.Choice.{pick}
 use Rattle.word.proofs.Each.{words-of}
 use Rattle.refusal.specs.Answer.{Answer, count, refusedAll}
-use Rattle.refusal.specs.declared.Refusal.{Refusal}
 use Rattle.cells.specs.Cells.{store}
 use Rattle.arity.specs.Tree.{ins, outs, need}
 use Rattle.arity.specs.Table.{nodes, circuit}
-use Rattle.arity.specs.Checked.{Checked, answerOf as checkOf}
+use Rattle.arity.specs.Check.{checked, answerOf as checkOf}
 use Rattle.arity.specs.Survey.{surveyed}
 use Rattle.arity.specs.Promise.{Node}
 use Rattle.arity.specs.declared.CheckAnswer.{CheckAnswer}
@@ -30,9 +29,7 @@ use Rattle.translator.specs.Translated.{translation, translated}
 use Rattle.translator.specs.Writing.{Room}
 use Rattle.translator.specs.Parts.{emission, Emits, Translatable}
 use Rattle.refusal.specs.Outcome.{outcome}
-use Rattle.translator.specs.Translate.{answerOf, numbersOf, translates, translatedBy, translatedTable, Translates, Counted, Headed}
-use Rattle.translator.specs.declared.TranslateAnswer.{TranslateAnswer}
-use Rattle.translator.specs.declared.TranslateAnswer.the-variants as Answers
+use Rattle.translator.specs.Translate.{numbersOf, translates, translatedBy, translatedTable, Counted, Headed}
 use Rattle.translator.specs.declared.place.Progress.{Progress}
 use Rattle.translator.proofs.Count.{emit-outs, emit-need}
 use Rattle.translator.proofs.Checked.{encoded-length}
@@ -156,12 +153,13 @@ module _ {table shape : List ℕ} {n m k d : ℕ} (s : Counted table shape n m k
           ap₂ (λ (x : ℕ) (xs : List ℕ). outcome (count x) xs) total stored ∙ sym (opened ∙ rw (le-leb k 2048 a, le-leb d 16384 b, le-leb (resultsAt k + m) (length c) l′))
 
 -- what the check's answer makes of it
-module _ {table : List ℕ} {o : CheckAnswer} (k : Checked table o) where
+module _ (table : List ℕ) {o : CheckAnswer} (k : checkOf o ≡ checked table) where
   pub counted : (shape : List ℕ) {shape′ : List ℕ} {n m i d : ℕ} → o ≡ Check.Accepted n m i d → ((k : ℕ) → getD table k 0 < 2 ^ 32) → length shape ≡ 2048 → shape′ ≡ surveyed table shape → Counted table shape′ n m i d
   counted shape e entries long s =
-      let p = promise k e (words-of table entries) in
+      let accepted = sym k ∙ ap checkOf e in
+      let p = promise accepted (words-of table entries) in
       record {
-        ready = record { few = p .most; node = p .node; row = rows shape k e long s };
+        ready = record { few = p .most; node = p .node; row = rows shape (_, accepted) long s };
         least = p .least;
         inputs-are = p .counted .0;
         outputs-are = p .counted .1;
@@ -169,11 +167,6 @@ module _ {table : List ℕ} {o : CheckAnswer} (k : Checked table o) where
         cells-are = p .celled;
       }
 
-  module _ {code : List ℕ} where
-    pub table-refused : {r : Refusal} → o ≡ Check.Refused r → Translates table code (Answers.Refused r) code
-    unfolding translatedTable
-    table-refused e = record { place = k .place; isLoose = k .isLoose; result = ap (λ (a : Answer). translatedBy a table code) (sym (ap checkOf e) ∙ k .answer) }
-
-    pub table-accepted : {n m i d : ℕ} {r : TranslateAnswer} {code′ : List ℕ} → o ≡ Check.Accepted n m i d → outcome (answerOf r) code′ ≡ translates table code → Translates table code r code′
-    unfolding translatedTable
-    table-accepted e w = record { place = k .place; isLoose = k .isLoose; result = w ∙ ap (λ (a : Answer). translatedBy a table code) (sym (ap checkOf e) ∙ k .answer) }
+  pub translated-by : (code : List ℕ) {a : CheckAnswer} → o ≡ a → translatedBy (checkOf a) table code ≡ translatedTable table code
+  unfolding translatedTable
+  translated-by code e = ap (λ (x : Answer). translatedBy x table code) (sym (ap checkOf e) ∙ k)

@@ -6,6 +6,7 @@ use mathlib.Core.List.{List, _++_}
 use lib.ListN.{length, take, drop}
 use Rattle.word.specs.Tick.{Tick, Words}
 use Rattle.refusal.specs.Answer.{count}
+use Rattle.refusal.specs.Outcome.{outcome}
 use Rattle.arity.specs.Tree.{Tree, ins, outs, need}
 use Rattle.arity.specs.Table.{nodes, circuit}
 use Rattle.arity.specs.Nodes.{Complete, cellsBefore}
@@ -14,8 +15,7 @@ use Rattle.calls.specs.Step.{step}
 use Rattle.flat.specs.Code.{encode, codeTick}
 use Rattle.flat.specs.Check.{codeOk}
 use Rattle.translator.specs.Translated.{translation, translated}
-use Rattle.translator.specs.Translate.{answerOf, numbersOf, Translates}
-use Rattle.translator.specs.declared.TranslateAnswer.{TranslateAnswer}
+use Rattle.translator.specs.Translate.{numbersOf, translatedTable}
 
 -- from any cells, a tick of a circuit's code gives the outputs and leaves the cells of a tick of the circuit
 abbrev pub TickRight : Type 0
@@ -28,8 +28,8 @@ TranslationOk = (n : ℕ) (t : Tree) → WellFormed t → Complete n t → ins t
     → codeOk (encode (translation n t)) ≡ true
 
 -- where `translate` answers n, the first n numbers of the buffer are the code of the table
-abbrev pub DeliversCode : (table code : List ℕ) → TranslateAnswer → (code′ : List ℕ) → Type 0
-DeliversCode table code a code′ = Translates table code a code′ → (n : ℕ) → answerOf a ≡ count n → Words table → take n code′ ≡ translated table
+abbrev pub DeliversCode : (table code : List ℕ) → ℕ → (code′ : List ℕ) → Type 0
+DeliversCode table code n code′ = outcome (count n) code′ ≡ translatedTable table code → Words table → take n code′ ≡ translated table
 
 -- there, refusals 10, 11 and 12 did not apply, and "a buffer longer than needed keeps its content past the needed part"
 pub record Delivered (table code : List ℕ) (n : ℕ) (code′ : List ℕ) : Type 0 where

@@ -12,7 +12,6 @@ use Rattle.arity.specs.Tree.{ins, outs, need}
 use Rattle.arity.specs.Table.{nodes, circuit}
 use Rattle.arity.specs.Nodes.{cellsBefore}
 use Rattle.arity.specs.Check.{checked}
-use Rattle.arity.specs.Checked.{LoosePlace}
 use Rattle.walker.specs.Ready.{base, Ready}
 use Rattle.flat.specs.Code.{resultsAt}
 use Rattle.translator.specs.Parts.{Translatable}
@@ -45,15 +44,9 @@ abbrev pub translatedBy : Answer → List ℕ → List ℕ → Outcome
 translatedBy (counts ks) table code = translates table code
 translatedBy (refused r p) table code = outcome (refused r p) code
 
--- "Translator: table, 10, 11, 12"; p is the place with refusal 9
-unfoldable pub translatedTable : ℕ → List ℕ → List ℕ → Outcome
-translatedTable p table = translatedBy (checked p table) table
-
--- r and the buffer after a call are the translator's, with some loose node as the place of refusal 9
-pub record Translates (table code : List ℕ) (r : TranslateAnswer) (code′ : List ℕ) : Type 0 where
-  pub place : ℕ
-  pub isLoose : LoosePlace table place
-  pub result : outcome (answerOf r) code′ ≡ translatedTable place table code
+-- "Translator: table, 10, 11, 12"
+unfoldable pub translatedTable : List ℕ → List ℕ → Outcome
+translatedTable table = translatedBy (checked table) table
 
 -- what a survey of an accepted table leaves, with the counts of its circuit
 pub record Counted (table shape : List ℕ) (n m c cells : ℕ) : Type 0 where

@@ -16,14 +16,14 @@ use place::ascending;
 use refusal::Refusal;
 use word::index;
 ghost use mathlib.Core.Path.{_≡_};
-ghost use mathlib.Core.List.{[], _∷_, _++_};
+ghost use mathlib.Core.List.{[], _∷_};
 ghost use Prim.Native.Nat.{_≤_};
 ghost use lib.ListN.{length, drop};
 ghost use Rattle.cells.specs.Cells.{store};
 ghost use Rattle.flat.specs.Code.{header};
 ghost use Rattle.translator.specs.Translated.{translated};
 ghost use Rattle.refusal.specs.Outcome.{outcome};
-ghost use Rattle.translator.specs.Translate.{answerOf, translates, Translates, numbersOf, Headed, Counted};
+ghost use Rattle.translator.specs.Translate.{answerOf, translates, translatedTable, Headed, Counted};
 
 // The count of numbers of the code, or the refusal.
 pub enum TranslateAnswer {
@@ -92,7 +92,7 @@ fn translate_circuit(
 
 // The flat code of a table: the table's refusals, then 10, 11 and 12; else the count of its numbers.
 pub fn translate(table: &[u32], code: &mut [u32]) -> TranslateAnswer
-    ensures { λ r. ⌜ Translates (now (table .entry)) (now (code .entry)) r (now (code .exit)) ⌝ }
+    ensures { λ r. ⌜ outcome (answerOf r) (now (code .exit)) ≡ translatedTable (now (table .entry)) (now (code .entry)) ⌝ }
 {
     let mut shape = [0u32; 2048];
     let answer = survey(table, &mut shape);

@@ -1,8 +1,8 @@
 -- Any list of walks of an accepted table, and refused walks of any table: the samples and the cells of the meaning.
 use Prim.Native.Nat.{ℕ, _≤_}
-use mathlib.Core.Path.{_≡_, refl, ap}
+use mathlib.Core.Path.{_≡_, ap}
 use mathlib.Core.Bool.{Bool, true, false}
-use mathlib.Core.List.{List}
+use mathlib.Core.List.{List, [], _∷_}
 use native.Mathlib.Omega.{arith}
 use lib.IntN.{ℤ}
 use lib.Dec.{leb}
@@ -13,12 +13,10 @@ use Rattle.refusal.specs.Answer.{Answer}
 use Rattle.refusal.specs.Answer.Answer.{counts, refused}
 use Rattle.cells.specs.Block.{Ran, unchanged, refusal, called}
 use Rattle.cells.proofs.Calls as calls
-use Rattle.arity.specs.declared.CheckAnswer.the-variants.{Accepted}
 use Rattle.arity.specs.Tree.{Tree, ins, outs}
 use Rattle.arity.specs.Table.{nodes, circuit}
 use Rattle.arity.specs.Nodes.{cellsBefore}
 use Rattle.arity.specs.Check.{checked}
-use Rattle.arity.specs.Checked.{Checked}
 use Rattle.arity.proofs.Promise.{promise}
 use Rattle.calls.specs.Step.{step}
 use Rattle.calls.specs.Calls.{Arguments, Refused}
@@ -48,31 +46,30 @@ module _ (table : List ℕ) (a : Arguments) (cells : List ℕ) (x : ℕ) (p : �
       go true g = calls.refused-nothing (step (cellsBefore t) t) (ins t) (outs t) (cellsBefore t n) (a .ticks) (a .inputs) (a .controls) cells (a .outputs) x p g
       go false g = ap (λ z. unchanged z cells (a .outputs)) g
 
-  walk-nothing : (q : ℕ) → walkOf q table a cells .answer ≡ refused x p → walkOf q table a cells ≡ unchanged (refused x p) cells (a .outputs)
+  walk-nothing : walkOf table a cells .answer ≡ refused x p → walkOf table a cells ≡ unchanged (refused x p) cells (a .outputs)
   unfolding walkedTable
-  walk-nothing q = go (checked q table)
+  walk-nothing = go (checked table)
     where
       go : (b : Answer) → walkedBy b table (a .ticks) (a .inputs) (a .controls) cells (a .outputs) .answer ≡ refused x p
           → walkedBy b table (a .ticks) (a .inputs) (a .controls) cells (a .outputs) ≡ unchanged (refused x p) cells (a .outputs)
       go (counts ks) g = circuit-nothing g
       go (refused y z) g = ap (λ z. unchanged z cells (a .outputs)) g
 
-  pub refused-walk : (q from : ℕ) → walkOf q table a cells .answer ≡ refused x p → Refused (walkCall q table a from) cells
-  refused-walk q from e = record { number = x; place = p; nothing = walk-nothing q e }
+  pub refused-walk : (from : ℕ) → walkOf table a cells .answer ≡ refused x p → Refused (walkCall table a from) cells
+  refused-walk from e = record { number = x; place = p; nothing = walk-nothing e }
 
-module _ (table : List ℕ) (n m i d : ℕ) (k : Checked table (Accepted n m i d)) (words : Words table) (few : d ≤ 16384) (p : ℕ) where
-  own-walk : IsProgramOf (nodes table) (circuit table) (walkOf p table)
+module _ (table : List ℕ) (n m i d : ℕ) (k : checked table ≡ counts (n ∷ m ∷ i ∷ d ∷ [])) (words : Words table) (few : d ≤ 16384) where
+  own-walk : IsProgramOf (nodes table) (circuit table) (walkOf table)
   unfolding walkedTable walked
   own-walk a cells =
-      let g = promise k refl words in
-      rw (g .answer p, is-most (cellsBefore (circuit table) (nodes table)) 16384 (omega (arith, g .celled)))
+      rw (k, is-most (cellsBefore (circuit table) (nodes table)) 16384 (omega (arith, promise k words .celled)))
 
 pub walks-go-on : (table : List ℕ) → WalksGoOn table
-walks-go-on table n m i d k words few p =
-    let g = promise k refl words in
-    from-past (nodes table) (circuit table) (g .wellFormed) (g .complete) (walkOf p table) (own-walk table n m i d k words (omega arith) p)
+walks-go-on table n m i d k words few =
+    let g = promise k words in
+    from-past (nodes table) (circuit table) (g .wellFormed) (g .complete) (walkOf table) (own-walk table n m i d k words (omega arith))
 
 pub walks-lawful : (table : List ℕ) → WalksLawful table
-walks-lawful table n m i d k words few p =
-    let g = promise k refl words in
-    from-load (nodes table) (circuit table) (g .wellFormed) (g .complete) (walkOf p table) (own-walk table n m i d k words (omega arith) p) _ (omega (arith, g .celled))
+walks-lawful table n m i d k words few =
+    let g = promise k words in
+    from-load (nodes table) (circuit table) (g .wellFormed) (g .complete) (walkOf table) (own-walk table n m i d k words (omega arith)) _ (omega (arith, g .celled))

@@ -1,17 +1,15 @@
 -- The walker: the complete result of one call, its answer, the lent cells and the output buffer after it.
 use Prim.Native.Nat.{ℕ}
-use mathlib.Core.Path.{_≡_}
 use mathlib.Core.List.{List}
 use lib.Dec.{leb}
 use Rattle.word.specs.Choice.{pick}
 use Rattle.refusal.specs.Answer.{Answer, count, refusalOf}
 use Rattle.refusal.specs.Answer.Answer.{counts, refused}
-use Rattle.cells.specs.Block.{Ran, ranAs, unchanged, refusal, called}
+use Rattle.cells.specs.Block.{Ran, unchanged, refusal, called}
 use Rattle.arity.specs.Tree.{Tree, ins, outs}
 use Rattle.arity.specs.Table.{nodes, circuit}
 use Rattle.arity.specs.Nodes.{cellsBefore}
 use Rattle.arity.specs.Check.{checked}
-use Rattle.arity.specs.Checked.{LoosePlace}
 use Rattle.walker.specs.declared.WalkAnswer.{WalkAnswer}
 use Rattle.walker.specs.declared.WalkAnswer.the-variants.{Samples, Refused}
 use Rattle.calls.specs.Step.{step}
@@ -33,12 +31,6 @@ abbrev pub walkedBy : Answer → List ℕ → ℕ → List ℕ → List ℕ → 
 walkedBy (counts ks) table ticks inputs controls cells outputs = walked (nodes table) (circuit table) ticks inputs controls cells outputs
 walkedBy (refused r p) table ticks inputs controls cells outputs = unchanged (refused r p) cells outputs
 
--- "Walker: table, 11, 14, 12"; p is the place with refusal 9
-unfoldable pub walkedTable : ℕ → List ℕ → ℕ → List ℕ → List ℕ → List ℕ → List ℕ → Ran
-walkedTable p table = walkedBy (checked p table) table
-
--- r and the buffers after a call are the walker's, with some loose node as the place of refusal 9
-pub record Walked (table : List ℕ) (ticks : ℕ) (inputs controls cells outputs : List ℕ) (r : WalkAnswer) (cells′ outputs′ : List ℕ) : Type 0 where
-  pub place : ℕ
-  pub isLoose : LoosePlace table place
-  pub result : ranAs (answerOf r) cells′ outputs′ ≡ walkedTable place table ticks inputs controls cells outputs
+-- "Walker: table, 11, 14, 12"
+unfoldable pub walkedTable : List ℕ → ℕ → List ℕ → List ℕ → List ℕ → List ℕ → Ran
+walkedTable table = walkedBy (checked table) table

@@ -15,7 +15,7 @@ ghost use Rattle.word.specs.Tick.{stepped};
 ghost use Rattle.cells.specs.Block.{ranAs, played, ticksOf};
 ghost use Rattle.arity.specs.Table.{nodes, circuit};
 ghost use Rattle.walker.specs.Ready.{stepOf, Surveyed, Playable};
-ghost use Rattle.walker.specs.Walk.{answerOf, walked, Walked};
+ghost use Rattle.walker.specs.Walk.{answerOf, walked, walkedTable};
 
 // The ticks of a call that is not refused, one after another, on the cells and the outputs that it needs and no more.
 fn play(
@@ -109,7 +109,8 @@ pub fn walk(
     cells: &mut [u32],
     outputs: &mut [u32],
 ) -> WalkAnswer
-    ensures { λ r. ⌜ Walked (now (table .entry)) ticks (now (inputs .entry)) (now (controls .entry)) (now (cells .entry)) (now (outputs .entry)) r (now (cells .exit)) (now (outputs .exit)) ⌝ }
+    ensures { λ r. ⌜ ranAs (answerOf r) (now (cells .exit)) (now (outputs .exit))
+        ≡ walkedTable (now (table .entry)) ticks (now (inputs .entry)) (now (controls .entry)) (now (cells .entry)) (now (outputs .entry)) ⌝ }
 {
     let mut shape = [0u32; 2048];
     let answer = survey(table, &mut shape);

@@ -39,7 +39,7 @@ enum-known-stepped c = search needs
 returns-4 : tie.Need-returns-4 Inv-loop μ-loop
 returns-4 c =
     let w = stepped-stop _ _ _ _ _ (c .before .stepped .given .1) (c .before .before .before .step .ensures) in
-    let d = ends-refused (c .before .before .before .before .before .before .before .before .before .before .if1 .left) (c .before .before .before .before .before .before .before .before .before .if2 .left) _ (c .before .before .before .before .before .before .before .loop .inv .1) (c .before .before .before .before .before .before .before .loop .inv .3) (omega arith) (w .0) (w .1) in
+    let d = ends-refused (c .before .before .before .before .before .before .before .before .before .before .if1 .left) (c .before .before .before .before .before .before .before .before .before .if2 .left) _ (c .before .before .before .before .before .before .before .loop .inv .1) (c .before .before .before .before .before .before .before .loop .inv .3) {r = c .before .stepped .given .0 .0} (omega arith) (w .0) (w .1) in
     (d .answer, d .rows)
 
 enum-known-stepped-2 : tie.Need-enum-known-stepped-2 Inv-loop μ-loop

@@ -17,7 +17,7 @@ refused-requires : tie.Need-refused-requires
 refused-requires c κs = search needs
 
 returns : tie.Need-returns
-returns c = reports (c .before .before .before .before .check .ensures) _ (c .before .before .answer .given .1) refl (c .refused .ensures)
+returns c = reports _ _ (c .before .before .before .before .check .ensures) (c .before .before .answer .given .1) refl (c .refused .ensures)
 
 enum-known-answer-2 : tie.Need-enum-known-answer-2
 enum-known-answer-2 c = search needs
@@ -26,7 +26,7 @@ refused-requires-2 : tie.Need-refused-requires-2
 refused-requires-2 c κs = search needs
 
 returns-2 : tie.Need-returns-2
-returns-2 c = reports (c .before .before .before .before .before .check .ensures) _ (c .before .before .before .answer2 .given .1) (short-report _ _ _ _ _ (omega arith)) (c .refused2 .ensures)
+returns-2 c = reports _ _ (c .before .before .before .before .before .check .ensures) (c .before .before .before .answer2 .given .1) (short-report _ _ _ _ _ (omega arith)) (c .refused2 .ensures)
 
 slice-write-counts : tie.Need-slice-write-counts
 slice-write-counts c = search needs
@@ -44,7 +44,7 @@ same-length : tie.Need-same-length
 same-length c = search needs
 
 returns-3 : tie.Need-returns-3
-returns-3 c = reports (c .before .before .before .before .check .ensures) _ (c .before .before .answer2 .given .1) (whole-report _ _ _ _ (c .before .before .before .before .before .before .before .args .counts .now) (omega arith)) refl
+returns-3 c = reports _ _ (c .before .before .before .before .check .ensures) (c .before .before .answer2 .given .1) (whole-report _ _ _ _ (c .before .before .before .before .before .before .before .args .counts .now) (omega arith)) refl
 
 pub circuit-check-spec : {M : Type 1} → statement M
 circuit-check-spec =

@@ -1,6 +1,7 @@
 -- `circuit::circuit_walk` meets its contract.
 use mathlib.Core.Path.{refl}
-use Rattle.circuit.proofs.Answers.{walks}
+use Rattle.walker.specs.Walk.{answerOf}
+use Rattle.circuit.proofs.Answers.{ran-gives}
 use borrow.Author.Needs.{needs}
 use Rattle.circuit.proofs.circuit_walk.Statement.{statement}
 use Rattle.circuit.proofs.circuit_walk.Tie as tie
@@ -21,7 +22,7 @@ same-length-2 : tie.Need-same-length-2
 same-length-2 c = search needs
 
 returns : tie.Need-returns
-returns c = walks (c .before .before .before .before .before .before .before .before .walk .ensures) (c .before .before .answer .given .1) (c .refused .ensures)
+returns c = ran-gives answerOf (c .refused .ensures) (c .before .before .answer .given .1) _ (c .before .before .before .before .before .before .before .before .walk .ensures)
 
 enum-known-answer-2 : tie.Need-enum-known-answer-2
 enum-known-answer-2 c = search needs
@@ -36,7 +37,7 @@ same-length-4 : tie.Need-same-length-4
 same-length-4 c = search needs
 
 returns-2 : tie.Need-returns-2
-returns-2 c = walks (c .before .before .before .before .before .before .before .walk .ensures) (c .before .answer2 .given .1) refl
+returns-2 c = ran-gives answerOf refl (c .before .answer2 .given .1) _ (c .before .before .before .before .before .before .before .walk .ensures)
 
 pub circuit-walk-spec : {M : Type 1} → statement M
 circuit-walk-spec =

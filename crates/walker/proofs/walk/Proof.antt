@@ -1,6 +1,6 @@
 -- `walker::walk` meets its contract.
-use mathlib.Core.Path.{refl}
-use Rattle.walker.proofs.Tables.{has-survey, walk-refused, walk-accepted}
+use mathlib.Core.Path.{refl, _∙_}
+use Rattle.walker.proofs.Tables.{has-survey, walked-by}
 use borrow.Author.Needs.{needs}
 use Rattle.walker.proofs.walk.Statement.{statement}
 use Rattle.walker.proofs.walk.Tie as tie
@@ -15,10 +15,10 @@ enum-known-answer-2 : tie.Need-enum-known-answer-2
 enum-known-answer-2 c = search needs
 
 walk-circuit-requires : tie.Need-walk-circuit-requires
-walk-circuit-requires c κs = has-survey (c .before .before .before .before .before .before .survey .ensures .0) _ (c .before .before .before .before .answer2 .given .1) (λ k. c .before .before .before .before .before .before .before .before .before .before .before .before .shared-slice-known .given k .fits) refl (c .before .before .before .before .before .before .survey .ensures .1)
+walk-circuit-requires c κs = has-survey _ (c .before .before .before .before .before .before .survey .ensures .0) _ (c .before .before .before .before .answer2 .given .1) (λ k. c .before .before .before .before .before .before .before .before .before .before .before .before .shared-slice-known .given k .fits) refl (c .before .before .before .before .before .before .survey .ensures .1)
 
 returns : tie.Need-returns
-returns c = walk-refused (c .before .before .before .survey .ensures .0) (c .before .answer .given .1)
+returns c = walked-by _ (c .before .before .before .survey .ensures .0) _ _ _ _ _ (c .before .answer .given .1)
 
 same-length : tie.Need-same-length
 same-length c = search needs
@@ -27,7 +27,7 @@ same-length-2 : tie.Need-same-length-2
 same-length-2 c = search needs
 
 returns-2 : tie.Need-returns-2
-returns-2 c = walk-accepted (c .before .before .before .before .before .before .before .before .before .before .before .survey .ensures .0) (c .before .before .before .before .before .before .before .before .before .answer2 .given .1) (c .before .before .before .before .walk-circuit .ensures)
+returns-2 c = c .before .before .before .before .walk-circuit .ensures ∙ walked-by _ (c .before .before .before .before .before .before .before .before .before .before .before .survey .ensures .0) _ _ _ _ _ (c .before .before .before .before .before .before .before .before .before .answer2 .given .1)
 
 pub walk-spec : {M : Type 1} → statement M
 walk-spec =

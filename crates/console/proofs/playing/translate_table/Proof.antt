@@ -24,7 +24,7 @@ returns : tie.Need-returns
 returns c = uncoded _
 
 returns-2 : tie.Need-returns-2
-returns-2 c = coded (c .before .before .before .before .translate .ensures) _ (c .before .before .answer2 .given .1) (words-of (c .before .before .before .before .before .before .before .args .table .now) (λ k. c .before .before .before .before .before .before .shared-slice-known .given k .fits)) (c .before .before .before .before .translate .kept .1 .0) _ (c .index .ensures)
+returns-2 c = coded _ _ (c .before .before .before .before .translate .ensures) _ (c .before .before .answer2 .given .1) (words-of (c .before .before .before .before .before .before .before .args .table .now) (λ k. c .before .before .before .before .before .before .shared-slice-known .given k .fits)) (c .before .before .before .before .translate .kept .1 .0) _ (c .index .ensures)
 
 pub translate-table-spec : {M : Type 1} → statement M
 translate-table-spec =

@@ -2,7 +2,7 @@
 use mathlib.Core.Path.{sym}
 use borrow.Author.Needs.{needs}
 use lib.Seq.{length-take-le}
-use Rattle.listing.proofs.Files.{printed-within}
+use Rattle.column.proofs.Stores.{begins-within}
 use Rattle.script.proofs.calls.print_file.Statement.{statement}
 use Rattle.script.proofs.calls.print_file.Tie as tie
 
@@ -10,10 +10,10 @@ print-requires : tie.Need-print-requires
 print-requires c κs = search needs
 
 array-share-prefix-text : tie.Need-array-share-prefix-text
-array-share-prefix-text c = printed-within _ _ _ _ (c .print .ensures)
+array-share-prefix-text c = begins-within (c .print .ensures)
 
 slice-aggregate-text : tie.Need-slice-aggregate-text
-slice-aggregate-text c = sym (length-take-le _ _ (printed-within _ _ _ _ (c .before .print .ensures)))
+slice-aggregate-text c = sym (length-take-le _ _ (begins-within (c .before .print .ensures)))
 
 text-requires : tie.Need-text-requires
 text-requires c κs = search needs
