@@ -14,7 +14,7 @@ use Rattle.arity.specs.Tree.Tree.{join}
 use Rattle.arity.specs.Table.{kindAt, firstAt, secondAt, nodes, tree, compositionOf}
 use Rattle.arity.specs.Rules.{Arity}
 use Rattle.arity.specs.WellFormed.{Ruled}
-use Rattle.arity.specs.Check.{twoChildren, firstInRange, secondInRange, ruleFits, taken, refusalAt, loose, firstLoose, report, checked, IsAccepted}
+use Rattle.arity.specs.Check.{twoChildren, firstInRange, secondInRange, ruleFits, taken, refusalAt, loose, report, checked, IsAccepted}
 use Rattle.arity.specs.Formed.{Child, Children, Fields, Formed, Fitting}
 use Rattle.arity.specs.Acceptance.{Acceptance}
 use Rattle.arity.proofs.Exact.{ruled, arity}
@@ -26,6 +26,7 @@ use Rattle.arity.proofs.Trees.{View, view}
 use Rattle.arity.proofs.Trees.View.{alone, two, one}
 use Rattle.arity.proofs.Right.{rights, kids}
 use Rattle.arity.proofs.Once.{nodewise}
+use Rattle.arity.proofs.Loose.{none-loose}
 use Rattle.arity.proofs.Walk.{Passed, has-passed, even, passes}
 
 -- the fields in range
@@ -117,7 +118,7 @@ module _ (t : List ℕ) (f : Formed t) (w : Fitting t) where
   complete =
       let l = f .least in
       let q = f .whole in
-      passes t (even t (λ e. omega arith) (omega arith)) (f .most) not-refused ∙ rw (not-loose (firstLoose t))
+      passes t (even t (λ e. omega arith) (omega arith)) (f .most) not-refused ∙ rw (none-loose t not-loose, le-ltb (nodes t) (nodes t) (omega arith))
 
 -- an accepted table: it is of the form, and its nodes have arities
 module _ (t : List ℕ) (x : Passed t) where

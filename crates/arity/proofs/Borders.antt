@@ -17,7 +17,7 @@ use Rattle.arity.specs.Rules.{Arity}
 use Rattle.arity.specs.WellFormed.{Ruled, WellFormed}
 use Rattle.arity.specs.Nodes.{Complete, subtree, sumTo, cellsBefore}
 use Rattle.arity.specs.Lowest.{lowest}
-use Rattle.arity.specs.Check.{checked, nodeByNode, refusalAt, childrenFree, taken, ruleFits, loose, firstLoose}
+use Rattle.arity.specs.Check.{checked, refusalAt, childrenFree, taken, ruleFits, loose, firstLoose}
 use Rattle.arity.specs.Formed.{Children, Fields, Formed, Counted, Fitting}
 use Rattle.arity.proofs.Exact.{exact}
 use Rattle.arity.proofs.Loose.{first-loose}
@@ -76,16 +76,16 @@ cables (suc n) = cables n ++ (5 ∷ 0 ∷ 0 ∷ 8 ∷ (2 * n) ∷ (2 * n + 1) �
 
 -- "32 inputs pass; 33 get 8."
 widest : checked (cables 31) ≡ counts (32 ∷ 32 ∷ 0 ∷ 0 ∷ [])
-unfolding cables checked lowest nodeByNode refusalAt childrenFree taken ruleFits tree treeAt ins outs need size sumTo
+unfolding cables checked lowest refusalAt childrenFree taken ruleFits tree treeAt ins outs need size sumTo
 widest = refl
 
 wider : checked (cables 32) ≡ refusedAt 8 64
-unfolding cables checked nodeByNode refusalAt childrenFree taken ruleFits tree treeAt ins outs need size sumTo
+unfolding cables checked lowest refusalAt childrenFree taken ruleFits tree treeAt ins outs need size sumTo
 wider = refl
 
 -- 512 nodes are looked at, and the first gets 4; 513 get 3
 fullest : checked (zeros 1536) ≡ refusedAt 4 0
-unfolding checked nodeByNode refusalAt
+unfolding checked lowest refusalAt
 fullest = refl
 
 fuller : checked (zeros 1539) ≡ refusedAt 3 512
@@ -97,7 +97,7 @@ abbrev pub fourDelays : List ℕ
 fourDelays = 4 ∷ 4095 ∷ 0 ∷ 4 ∷ 4095 ∷ 0 ∷ 8 ∷ 0 ∷ 1 ∷ 4 ∷ 4095 ∷ 0 ∷ 4 ∷ 4095 ∷ 0 ∷ 8 ∷ 3 ∷ 4 ∷ 8 ∷ 2 ∷ 5 ∷ []
 
 pub four-delays-accepted : checked fourDelays ≡ counts (8 ∷ 4 ∷ 4 ∷ 16384 ∷ [])
-unfolding checked lowest nodeByNode refusalAt childrenFree taken ruleFits tree treeAt ins outs need size sumTo
+unfolding checked lowest refusalAt childrenFree taken ruleFits tree treeAt ins outs need size sumTo
 four-delays-accepted = refl
 
 pub four-delays-words : Words fourDelays
@@ -108,7 +108,7 @@ abbrev pub integrator : List ℕ
 integrator = 3 ∷ 1 ∷ 0 ∷ 5 ∷ 0 ∷ 0 ∷ 11 ∷ 0 ∷ 1 ∷ []
 
 pub integrator-accepted : checked integrator ≡ counts (1 ∷ 1 ∷ 3 ∷ 1 ∷ [])
-unfolding checked lowest nodeByNode refusalAt childrenFree taken ruleFits tree treeAt ins outs need size sumTo operands
+unfolding checked lowest refusalAt childrenFree taken ruleFits tree treeAt ins outs need size sumTo operands
 integrator-accepted = refl
 
 pub integrator-words : Words integrator
@@ -118,7 +118,7 @@ abbrev pub ondemandCable : List ℕ
 ondemandCable = 5 ∷ 0 ∷ 0 ∷ 12 ∷ 0 ∷ 0 ∷ []
 
 pub ondemand-accepted : checked ondemandCable ≡ counts (2 ∷ 1 ∷ 3 ∷ 1 ∷ [])
-unfolding checked lowest nodeByNode refusalAt childrenFree taken ruleFits tree treeAt ins outs need size sumTo
+unfolding checked lowest refusalAt childrenFree taken ruleFits tree treeAt ins outs need size sumTo
 ondemand-accepted = refl
 
 pub ondemand-words : Words ondemandCable
@@ -148,7 +148,7 @@ abbrev minusOne : List ℕ
 minusOne = 1 ∷ 4294967295 ∷ 0 ∷ []
 
 minus-one-accepted : checked minusOne ≡ counts (0 ∷ 1 ∷ 1 ∷ 0 ∷ [])
-unfolding checked lowest nodeByNode refusalAt childrenFree taken ruleFits tree treeAt ins outs need size sumTo
+unfolding checked lowest refusalAt childrenFree taken ruleFits tree treeAt ins outs need size sumTo
 minus-one-accepted = refl
 
 largest-number : WellFormed (circuit minusOne)

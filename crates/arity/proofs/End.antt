@@ -7,7 +7,7 @@ use mathlib.Core.List.{List}
 use native.Mathlib.Omega.{arith}
 use lib.ListN.{length, getD, replicate, length-replicate, getD-replicate}
 use lib.Dec.{eqb, ltb}
-use borrow.Author.Tests.{lt-ltb, le-ltb, eq-eqb, ne-eqb}
+use borrow.Author.Tests.{lt-ltb, le-ltb}
 use Rattle.word.specs.Choice.{bit}
 use Rattle.refusal.specs.Answer.{refusalOf}
 use Rattle.refusal.specs.declared.Refusal.{Refusal}
@@ -16,7 +16,7 @@ use Rattle.arity.specs.Table.{nodes}
 use Rattle.arity.specs.Nodes.{sumTo}
 use Rattle.arity.specs.Lowest.{lowest}
 use Rattle.arity.specs.Check.{taken, refusalAt, firstCell, loose, firstLoose, checked, answerOf}
-use Rattle.arity.specs.Survey.{rowOf, rowAt, putRow, isRefused, firstRefused, filled, surveyed}
+use Rattle.arity.specs.Survey.{rowOf, rowAt, putRow, filled, surveyed}
 use Rattle.arity.specs.Steps.{State, Refuses, Steps, looseIn}
 use Rattle.arity.specs.declared.CheckAnswer.{CheckAnswer}
 use Rattle.arity.specs.declared.CheckAnswer.the-variants.{Accepted, Refused}
@@ -24,9 +24,8 @@ use Rattle.arity.specs.declared.rows.Row.{Row}
 use Rattle.arity.specs.declared.node.Stepped.{Stepped}
 use Rattle.arity.specs.declared.node.Stepped.the-variants.{Next, Stop}
 use Rattle.arity.proofs.Tests.{bit-zero}
-use Rattle.arity.proofs.Lowest.{lowest-is, lowest-alike}
-use Rattle.arity.proofs.Loose.{one-loose, none-loose}
-use Rattle.arity.proofs.Walk.{even, not-even, unevenly, too-many, stops, passes}
+use Rattle.arity.proofs.Lowest.{lowest-alike}
+use Rattle.arity.proofs.Walk.{passed-to, even, not-even, unevenly, too-many, stops, passes}
 
 -- before the first node
 none-taken : (t : List ℕ) (c : ℕ) → taken t 0 c ≡ false
@@ -56,12 +55,6 @@ filled-none t s = refl
 pub filled-more : (t s₀ s s′ : List ℕ) (i : ℕ) → s ≡ filled t i s₀ → s′ ≡ putRow s i (rowOf t i) → s′ ≡ filled t (suc i) s₀
 unfolding filled
 filled-more t s₀ s s′ i e f = f ∙ ap (λ (l : List ℕ). putRow l i (rowOf t i)) e
-
--- i nodes pass, and then one is refused or none is left
-passed-to : (t : List ℕ) (i : ℕ) → i ≤ nodes t → ((j : ℕ) → j < i → refusalAt t j ≡ 0) → (i < nodes t → refusalAt t i ≡ 0 → ⊥) → firstRefused t ≡ i
-passed-to t i h f g =
-    lowest-is (isRefused t) (nodes t) 0 i (omega arith) (omega arith) (λ j a b. rw (eq-eqb (refusalAt t j) 0 (f j b)))
-    (λ l. rw (ne-eqb (refusalAt t i) 0 (g (omega arith))))
 
 -- the rows of a table whose nodes all pass
 pub surveyed-all : (t s : List ℕ) → (length t ≡ 0 → ⊥) → length t % 3 ≡ 0 → nodes t ≤ 512 → ((j : ℕ) → j < nodes t → refusalAt t j ≡ 0)
@@ -124,7 +117,7 @@ module _ {t : List ℕ} (some : length t ≡ 0 → ⊥) (thirds : length t % 3 �
       pub ends-loose : p < nodes t → Done t s₀ (Refused (LooseNode p)) s
       ends-loose h =
           record {
-            answer = rw found (sym (passes t (even t some thirds) (whole .most) (whole .right) ∙ rw (one-loose t (omega (arith, found)))));
+            answer = rw found (sym (passes t (even t some thirds) (whole .most) (whole .right) ∙ rw (lt-ltb (firstLoose t) (nodes t) (omega (arith, found)))));
             rows = rows-all;
           }
 
@@ -133,7 +126,7 @@ module _ {t : List ℕ} (some : length t ≡ 0 → ⊥) (thirds : length t % 3 �
       ends-accepted h {c} ec {r} er =
           let z : r ≡ rowOf t (nodes t - 1) = er ∙ whole .rows (nodes t - 1) (omega arith) in
           record {
-            answer = rw (z, ec, last) (sym (passes t (even t some thirds) (whole .most) (whole .right) ∙ rw (none-loose t (omega (arith, found)))));
+            answer = rw (z, ec, last) (sym (passes t (even t some thirds) (whole .most) (whole .right) ∙ rw (le-ltb (firstLoose t) (nodes t) (omega (arith, found)))));
             rows = rows-all;
           }
 

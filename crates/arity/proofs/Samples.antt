@@ -9,7 +9,7 @@ use Rattle.arity.specs.Tree.{ins, outs, need, size}
 use Rattle.arity.specs.Table.{tree, treeAt}
 use Rattle.arity.specs.Nodes.{sumTo}
 use Rattle.arity.specs.Lowest.{lowest}
-use Rattle.arity.specs.Check.{checked, nodeByNode, refusalAt, childrenFree, taken, ruleFits}
+use Rattle.arity.specs.Check.{checked, refusalAt, childrenFree, taken, ruleFits}
 
 -- a table and the check's answer to it
 record Sample : Type 0 where
@@ -49,5 +49,5 @@ all-right [] = Unit {0}
 all-right (s ∷ ss) = (checked (s .table) ≡ s .answer) × all-right ss
 
 samples-right : all-right samples
-unfolding samples all-right checked lowest nodeByNode refusalAt childrenFree taken ruleFits tree treeAt ins outs need size sumTo operands
+unfolding samples all-right checked lowest refusalAt childrenFree taken ruleFits tree treeAt ins outs need size sumTo operands
 samples-right = (refl, (refl, (refl, (refl, (refl, (refl, (refl, (refl, (refl, (refl, (refl, (refl, tt))))))))))))

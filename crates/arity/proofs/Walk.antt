@@ -1,63 +1,31 @@
--- The walk from node to node: where it stops, where it passes, and what is known of a table that it accepts.
-use Prim.Native.Nat.{ℕ, zero, suc, _+_, _*_, _%_, _≤_, _<_}
-use mathlib.Core.Path.{_≡_, refl, sym, _∙_}
+-- The check from node to node: where it stops, where it passes, and what is known of a table that it accepts.
+use Prim.Native.Nat.{ℕ, _*_, _%_, _≤_, _<_}
+use mathlib.Core.Path.{_≡_, sym, _∙_}
 use mathlib.Core.Logic.{_⊎_, inl, inr}
-use mathlib.Core.Bool.{Bool, true, false}
+use mathlib.Core.Bool.{true, false}
 use mathlib.Core.List.{List}
 use native.Mathlib.Omega.{arith}
 use native.Mathlib.Decide.{decLt, ℕ-discrete}
 use lib.ListN.{length}
-use lib.Dec.{eqb}
-use borrow.Author.Tests.{le-ltb, lt-ltb, eq-eqb, ne-eqb}
+use lib.Dec.{ltb}
+use borrow.Author.Tests.{le-ltb, lt-ltb, ltb-false, eq-eqb, ne-eqb}
 use Rattle.word.specs.Choice.{pick}
 use Rattle.refusal.specs.Answer.{Answer, refusedAt}
 use Rattle.refusal.specs.Answer.Answer.{counts}
 use Rattle.arity.specs.Table.{nodes}
-use Rattle.arity.specs.Check.{refusalAt, nodeByNode, report, loose, firstLoose, uneven, checked}
+use Rattle.arity.specs.Check.{refusalAt, isRefused, firstRefused, report, loose, firstLoose, uneven, checked}
+use Rattle.arity.proofs.Lowest.{lowest-least, lowest-is}
 use Rattle.arity.proofs.Loose.{tight}
 
 -- accepted is never refused
 never : (xs : List ℕ) (r p : ℕ) → refusedAt r p ≡ counts xs → ⊥
 never xs r p e = let z : _≡_ {A = ℕ} 0 1 = cc in omega arith
 
--- the nodes that a walk has passed
-walk-right : (t : List ℕ) (n i : ℕ) (xs : List ℕ) (rest : Answer) → nodeByNode t n i rest ≡ counts xs
-    → ((j : ℕ) → i ≤ j → j < i + n → refusalAt t j ≡ 0) × (rest ≡ counts xs)
-unfolding nodeByNode
-walk-right t zero i xs rest e = (λ j h k. absurd (omega arith), e)
-walk-right t (suc n) i xs rest e = go (ℕ-discrete (refusalAt t i) 0) (walk-right t n (suc i) xs rest)
-  where
-    go : Dec (refusalAt t i ≡ 0)
-        → (nodeByNode t n (suc i) rest ≡ counts xs → ((j : ℕ) → suc i ≤ j → j < suc i + n → refusalAt t j ≡ 0) × (rest ≡ counts xs))
-        → ((j : ℕ) → i ≤ j → j < i + suc n → refusalAt t j ≡ 0) × (rest ≡ counts xs)
-    go (no z) ih = absurd (never _ _ _ (rw (ne-eqb (refusalAt t i) 0 z) at e))
-    go (yes z) ih = (λ j h k. at j h k (ℕ-discrete i j), w .1)
-      where
-        w : ((j : ℕ) → suc i ≤ j → j < suc i + n → refusalAt t j ≡ 0) × (rest ≡ counts xs)
-        w = ih (rw (eq-eqb (refusalAt t i) 0 z) at e)
-
-        at : (j : ℕ) → i ≤ j → j < i + suc n → Dec (i ≡ j) → refusalAt t j ≡ 0
-        at j h k (yes e) = rw (← e) z
-        at j h k (no e) = w .0 j (omega arith) (omega arith)
-
--- it goes on where no node is refused, and stops at the first that is
-walk-passes : (t : List ℕ) (n i : ℕ) (rest : Answer) → ((j : ℕ) → i ≤ j → j < i + n → refusalAt t j ≡ 0) → nodeByNode t n i rest ≡ rest
-unfolding nodeByNode
-walk-passes t zero i rest h = refl
-walk-passes t (suc n) i rest h =
-    rw (eq-eqb (refusalAt t i) 0 (h i (omega arith) (omega arith))) (walk-passes t n (suc i) rest (λ j a b. h j (omega arith) (omega arith)))
-
-walk-stops : (t : List ℕ) (n i j : ℕ) (rest : Answer) → i ≤ j → j < i + n → ((k : ℕ) → i ≤ k → k < j → refusalAt t k ≡ 0) → (refusalAt t j ≡ 0 → ⊥)
-    → nodeByNode t n i rest ≡ refusedAt (refusalAt t j) j
-unfolding nodeByNode
-walk-stops t zero i j rest a b f g = absurd (omega arith)
-walk-stops t (suc n) i j rest a b f g = go (ℕ-discrete i j) (walk-stops t n (suc i) j rest)
-  where
-    go : Dec (i ≡ j)
-        → (suc i ≤ j → j < suc i + n → ((k : ℕ) → suc i ≤ k → k < j → refusalAt t k ≡ 0) → (refusalAt t j ≡ 0 → ⊥) → nodeByNode t n (suc i) rest ≡ refusedAt (refusalAt t j) j)
-        → pick (eqb (refusalAt t i) 0) (nodeByNode t n (suc i) rest) (refusedAt (refusalAt t i) i) ≡ refusedAt (refusalAt t j) j
-    go (yes e) ih = rw (e, ne-eqb (refusalAt t j) 0 g)
-    go (no e) ih = rw (eq-eqb (refusalAt t i) 0 (f i (omega arith) (omega arith))) (ih (omega arith) (omega arith) (λ k x y. f k (omega arith) y) g)
+-- i nodes pass, and then one is refused or none is left
+pub passed-to : (t : List ℕ) (i : ℕ) → i ≤ nodes t → ((j : ℕ) → j < i → refusalAt t j ≡ 0) → (i < nodes t → refusalAt t i ≡ 0 → ⊥) → firstRefused t ≡ i
+passed-to t i h f g =
+    lowest-is (isRefused t) (nodes t) 0 i (omega arith) (omega arith) (λ j a b. le-ltb 0 (refusalAt t j) (omega (arith, f j b)))
+    (λ l. lt-ltb 0 (refusalAt t i) (omega (arith, g (omega arith))))
 
 -- refusal 3
 pub even : (t : List ℕ) → (length t ≡ 0 → ⊥) → length t % 3 ≡ 0 → uneven t ≡ false
@@ -81,15 +49,18 @@ too-many t e h = rw (e, lt-ltb 512 (nodes t) h)
 
 -- the nodes, and what comes after the last
 module _ (t : List ℕ) (e : uneven t ≡ false) (most : nodes t ≤ 512) where
-  walked : checked t ≡ nodeByNode t (nodes t) 0 (pick (loose t (firstLoose t)) (refusedAt 9 (firstLoose t)) (report t))
+  abbrev after : Answer
+  after = pick (ltb (firstLoose t) (nodes t)) (refusedAt 9 (firstLoose t)) (report t)
+
+  walked : checked t ≡ pick (ltb (firstRefused t) (nodes t)) (refusedAt (refusalAt t (firstRefused t)) (firstRefused t)) after
   unfolding checked
   walked = rw (e, le-ltb 512 (nodes t) most)
 
   pub stops : (i : ℕ) → i < nodes t → ((j : ℕ) → j < i → refusalAt t j ≡ 0) → (refusalAt t i ≡ 0 → ⊥) → checked t ≡ refusedAt (refusalAt t i) i
-  stops i h f g = walked ∙ walk-stops t (nodes t) 0 i _ (omega arith) (omega arith) (λ k x y. f k y) g
+  stops i h f g = walked ∙ rw (passed-to t i (omega arith) f (λ l. g), lt-ltb i (nodes t) h)
 
-  pub passes : ((j : ℕ) → j < nodes t → refusalAt t j ≡ 0) → checked t ≡ pick (loose t (firstLoose t)) (refusedAt 9 (firstLoose t)) (report t)
-  passes f = walked ∙ walk-passes t (nodes t) 0 _ (λ j x y. f j (omega arith))
+  pub passes : ((j : ℕ) → j < nodes t → refusalAt t j ≡ 0) → checked t ≡ after
+  passes f = walked ∙ rw (passed-to t (nodes t) (omega arith) f (λ l. absurd (omega arith)), le-ltb (nodes t) (nodes t) (omega arith))
 
 -- a table that passes
 pub record Passed (t : List ℕ) : Type 0 where
@@ -100,22 +71,23 @@ pub record Passed (t : List ℕ) : Type 0 where
   pub tight : (q : ℕ) → loose t q ≡ false
 
 pub has-passed : (t xs : List ℕ) → checked t ≡ counts xs → Passed t × (report t ≡ counts xs)
-has-passed t xs e = first (ℕ-discrete (length t) 0) (ℕ-discrete (length t % 3) 0) (decLt 512 (nodes t)) (loose t (firstLoose t)) refl
+has-passed t xs e = start (ℕ-discrete (length t) 0) (ℕ-discrete (length t % 3) 0) (decLt 512 (nodes t))
   where
-    first : Dec (length t ≡ 0) → Dec (length t % 3 ≡ 0) → Dec (512 < nodes t) → (x : Bool) → loose t (firstLoose t) ≡ x → Passed t × (report t ≡ counts xs)
-    first (yes z) y x w v = absurd (never _ _ _ (sym (unevenly t (not-even t (inl z))) ∙ e))
-    first (no z) (no y) x w v = absurd (never _ _ _ (sym (unevenly t (not-even t (inr y))) ∙ e))
-    first (no z) (yes y) (yes x) w v = absurd (never _ _ _ (sym (too-many t (even t z y) x) ∙ e))
-    first (no z) (yes y) (no x) true v =
-        absurd (never _ _ _ (rw v at (walk-right t (nodes t) 0 _ _ (sym (walked t (even t z y) (omega arith)) ∙ e) .1)))
-    first (no z) (yes y) (no x) false v =
-        let r = walk-right t (nodes t) 0 _ _ (sym (walked t (even t z y) (omega arith)) ∙ e) in (
-          record {
-            whole = omega arith;
-            least = omega arith;
-            most = omega arith;
-            right = λ i h. r .0 i (omega arith) (omega arith);
-            tight = tight t v;
-          },
-          rw v at (r .1),
-        )
+    ends : (whole : uneven t ≡ false) (most : nodes t ≤ 512) → Dec (firstRefused t < nodes t) → Dec (firstLoose t < nodes t)
+        → ((i : ℕ) → i < nodes t → refusalAt t i ≡ 0) × ((q : ℕ) → loose t q ≡ false) × (report t ≡ counts xs)
+    ends whole most (yes w) v = absurd (never _ _ _ (rw (lt-ltb (firstRefused t) (nodes t) w) at (sym (walked t whole most) ∙ e)))
+    ends whole most (no w) (yes v) =
+        absurd (never _ _ _ (rw (le-ltb (firstRefused t) (nodes t) (omega arith), lt-ltb (firstLoose t) (nodes t) v) at (sym (walked t whole most) ∙ e)))
+    ends whole most (no w) (no v) = (
+      λ i h. omega (arith, ltb-false 0 (refusalAt t i) (lowest-least (isRefused t) (nodes t) 0 i (omega arith) (omega arith))),
+      tight t (omega arith),
+      rw (le-ltb (firstRefused t) (nodes t) (omega arith), le-ltb (firstLoose t) (nodes t) (omega arith)) at (sym (walked t whole most) ∙ e),
+    )
+
+    start : Dec (length t ≡ 0) → Dec (length t % 3 ≡ 0) → Dec (512 < nodes t) → Passed t × (report t ≡ counts xs)
+    start (yes z) y x = absurd (never _ _ _ (sym (unevenly t (not-even t (inl z))) ∙ e))
+    start (no z) (no y) x = absurd (never _ _ _ (sym (unevenly t (not-even t (inr y))) ∙ e))
+    start (no z) (yes y) (yes x) = absurd (never _ _ _ (sym (too-many t (even t z y) x) ∙ e))
+    start (no z) (yes y) (no x) =
+        let (right, tight, r) = ends (even t z y) (omega arith) (decLt (firstRefused t) (nodes t)) (decLt (firstLoose t) (nodes t)) in
+        (record { whole = omega arith; least = omega arith; most = omega arith; right = right; tight = tight }, r)

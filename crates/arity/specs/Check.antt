@@ -87,10 +87,12 @@ refusalAt table i =
     (pick (not (ruleFits table i)) 7
     (pick (not (narrow (tree table i))) 8 0))))
 
--- "the table, node by node": n nodes from i on, then what comes after the last
-unfoldable pub nodeByNode : List ℕ → (n i : ℕ) → Answer → Answer
-nodeByNode table zero i rest = rest
-nodeByNode table (suc n) i rest = pick (eqb (refusalAt table i) 0) (nodeByNode table n (suc i) rest) (refusedAt (refusalAt table i) i)
+-- "the table, node by node": the first node that is refused; the count of nodes where none is
+abbrev pub isRefused : List ℕ → ℕ → Bool
+isRefused table i = ltb 0 (refusalAt table i)
+
+abbrev pub firstRefused : List ℕ → ℕ
+firstRefused table = lowest (isRefused table) (nodes table) 0
 
 -- "A node's cells follow those of all lower-numbered nodes": the first cell of node i
 abbrev pub cellsOf : List ℕ → ℕ → ℕ
@@ -107,7 +109,7 @@ report table = counts (ins (circuit table) ∷ outs (circuit table) ∷ need (ci
 abbrev pub loose : List ℕ → ℕ → Bool
 loose table p = ltb (suc p) (nodes table) && not (taken table (nodes table) p)
 
--- its place, "the lowest-numbered node that is nobody's child"; the count of nodes where none is loose
+-- its place, "the lowest-numbered node that is nobody's child"; the count of nodes where there is none
 abbrev pub firstLoose : List ℕ → ℕ
 firstLoose table = lowest (loose table) (nodes table) 0
 
@@ -120,8 +122,8 @@ unfoldable pub checked : List ℕ → Answer
 checked table =
     pick (uneven table) (refusedAt 3 0)
     (pick (ltb 512 (nodes table)) (refusedAt 3 512)
-    (nodeByNode table (nodes table) 0
-    (pick (loose table (firstLoose table)) (refusedAt 9 (firstLoose table))
+    (pick (ltb (firstRefused table) (nodes table)) (refusedAt (refusalAt table (firstRefused table)) (firstRefused table))
+    (pick (ltb (firstLoose table) (nodes table)) (refusedAt 9 (firstLoose table))
     (report table))))
 
 -- the document's answer for each case
@@ -129,6 +131,6 @@ abbrev pub answerOf : CheckAnswer → Answer
 answerOf (Accepted inputs outputs instructions cells) = counts (inputs ∷ outputs ∷ instructions ∷ cells ∷ [])
 answerOf (Refused r) = refusalOf r
 
--- the check counts the table
+-- the check answers with counts
 abbrev pub IsAccepted : List ℕ → Type 0
 IsAccepted table = (ks : List ℕ) × (checked table ≡ counts ks)

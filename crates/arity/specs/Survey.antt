@@ -1,14 +1,12 @@
 -- The survey: four numbers a node that the check leaves in a lent buffer, its shape.
 use Prim.Native.Nat.{ℕ, zero, suc, _+_, _*_}
-use mathlib.Core.Bool.{Bool, not}
 use mathlib.Core.List.{List}
 use lib.ListN.{getD, set}
-use lib.Dec.{eqb, ltb}
+use lib.Dec.{ltb}
 use Rattle.word.specs.Choice.{pick}
 use Rattle.arity.specs.Tree.{Tree, ins, outs, need}
 use Rattle.arity.specs.Table.{nodes, tree}
-use Rattle.arity.specs.Lowest.{lowest}
-use Rattle.arity.specs.Check.{refusalAt, firstCell, uneven}
+use Rattle.arity.specs.Check.{firstRefused, firstCell, uneven}
 use Rattle.arity.specs.declared.rows.Row.{Row}
 
 -- the row of node j in a shape, four numbers a node
@@ -29,13 +27,6 @@ rowFor x cell = record { inputs = ins x; outputs = outs x; instructions = need x
 
 abbrev pub rowOf : List ℕ → ℕ → Row
 rowOf table j = rowFor (tree table j) (firstCell table j)
-
--- the first refused node; the count of nodes where none is refused
-abbrev pub isRefused : List ℕ → ℕ → Bool
-isRefused table i = not (eqb (refusalAt table i) 0)
-
-abbrev pub firstRefused : List ℕ → ℕ
-firstRefused table = lowest (isRefused table) (nodes table) 0
 
 -- a shape with the rows of the first i nodes
 unfoldable pub filled : List ℕ → ℕ → List ℕ → List ℕ
