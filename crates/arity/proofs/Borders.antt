@@ -21,6 +21,7 @@ use Rattle.arity.specs.Check.{checked, refusalAt, childrenFree, taken, r
 use Rattle.arity.specs.Formed.{Children, Fields, Formed, Counted, Fitting}
 use Rattle.arity.proofs.Exact.{exact}
 use Rattle.arity.proofs.Loose.{first-loose}
+use Rattle.arity.proofs.RefusedLoose.{refused-loose}
 use Rattle.arity.proofs.Acceptance.{acceptance}
 use Rattle.arity.proofs.Promise.{promise}
 
@@ -154,9 +155,12 @@ minus-one-accepted = refl
 largest-number : WellFormed (circuit minusOne)
 largest-number = promise minus-one-accepted (words-by minusOne refl) .wellFormed
 
--- the place with refusal 9: any loose node tells that the first one is loose, and the node just before it is not
+-- any loose node tells that the first one is loose, and the node just before it is not
 first-is-loose : (t : List ℕ) (q : ℕ) → loose t q ≡ true → loose t (firstLoose t) ≡ true
 first-is-loose t = first-loose t .isLoose
 
 before-first : (t : List ℕ) (q : ℕ) → suc q ≡ firstLoose t → loose t q ≡ false
 before-first t q e = first-loose t .noLower q (omega (arith, e))
+
+refused-at-1 : (t : List ℕ) → checked t ≡ refusedAt 9 1 → (loose t 1 ≡ true) × (loose t 0 ≡ false)
+refused-at-1 t e = let (l, f) = refused-loose t 1 e in (l, f 0 (omega arith))

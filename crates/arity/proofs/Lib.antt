@@ -13,6 +13,7 @@ mod Bounds
 mod Lowest
 pub mod Loose
 mod Walk
+pub mod RefusedLoose
 pub mod Acceptance
 pub mod Promise
 mod Joint

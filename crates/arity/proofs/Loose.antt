@@ -17,7 +17,10 @@ module _ (t : List ℕ) where
   inside : (q : ℕ) → loose t q ≡ true → suc q < nodes t
   inside q h = ltb-true (suc q) (nodes t) (and-left (ltb (suc q) (nodes t)) _ h)
 
-  not-lower : (q : ℕ) → q < firstLoose t → loose t q ≡ false
+  pub one-loose : firstLoose t < nodes t → loose t (firstLoose t) ≡ true
+  one-loose h = lowest-found (loose t) (nodes t) 0 (omega arith)
+
+  pub not-lower : (q : ℕ) → q < firstLoose t → loose t q ≡ false
   not-lower q h = lowest-least (loose t) (nodes t) 0 q (omega arith) h
 
   first-is-loose : (q : ℕ) → loose t q ≡ true → loose t (firstLoose t) ≡ true
@@ -25,7 +28,7 @@ module _ (t : List ℕ) where
     where
       go : Dec (q < firstLoose t) → loose t (firstLoose t) ≡ true
       go (yes l) = absurd (false≢true (sym (not-lower q l) ∙ h))
-      go (no l) = lowest-found (loose t) (nodes t) 0 (omega (arith, inside q h))
+      go (no l) = one-loose (omega (arith, inside q h))
 
   pub first-loose : FirstLoose t
   first-loose = record { isLoose = first-is-loose; noLower = λ q h. not-lower q (omega arith) }

@@ -17,10 +17,6 @@ use Rattle.arity.specs.Check.{refusalAt, isRefused, firstRefused, report
 use Rattle.arity.proofs.Lowest.{lowest-least, lowest-is}
 use Rattle.arity.proofs.Loose.{tight}
 
--- accepted is never refused
-never : (xs : List ℕ) (r p : ℕ) → refusedAt r p ≡ counts xs → ⊥
-never xs r p e = let z : _≡_ {A = ℕ} 0 1 = cc in omega arith
-
 -- i nodes pass, and then one is refused or none is left
 pub passed-to : (t : List ℕ) (i : ℕ) → i ≤ nodes t → ((j : ℕ) → j < i → refusalAt t j ≡ 0) → (i < nodes t → refusalAt t i ≡ 0 → ⊥) → firstRefused t ≡ i
 passed-to t i h f g =
@@ -70,24 +66,46 @@ pub record Passed (t : List ℕ) : Type 0 where
   pub right : (i : ℕ) → i < nodes t → refusalAt t i ≡ 0
   pub tight : (q : ℕ) → loose t q ≡ false
 
-pub has-passed : (t xs : List ℕ) → checked t ≡ counts xs → Passed t × (report t ≡ counts xs)
-has-passed t xs e = start (ℕ-discrete (length t) 0) (ℕ-discrete (length t % 3) 0) (decLt 512 (nodes t))
-  where
-    ends : (whole : uneven t ≡ false) (most : nodes t ≤ 512) → Dec (firstRefused t < nodes t) → Dec (firstLoose t < nodes t)
-        → ((i : ℕ) → i < nodes t → refusalAt t i ≡ 0) × ((q : ℕ) → loose t q ≡ false) × (report t ≡ counts xs)
-    ends whole most (yes w) v = absurd (never _ _ _ (rw (lt-ltb (firstRefused t) (nodes t) w) at (sym (walked t whole most) ∙ e)))
-    ends whole most (no w) (yes v) =
-        absurd (never _ _ _ (rw (le-ltb (firstRefused t) (nodes t) (omega arith), lt-ltb (firstLoose t) (nodes t) v) at (sym (walked t whole most) ∙ e)))
-    ends whole most (no w) (no v) = (
-      λ i h. omega (arith, ltb-false 0 (refusalAt t i) (lowest-least (isRefused t) (nodes t) 0 i (omega arith) (omega arith))),
-      tight t (omega arith),
-      rw (le-ltb (firstRefused t) (nodes t) (omega arith), le-ltb (firstLoose t) (nodes t) (omega arith)) at (sym (walked t whole most) ∙ e),
-    )
+-- what the check answers, case by case
+pub data Verdict (t : List ℕ) : Type 0 where
+  miscounted : (p : ℕ) → checked t ≡ refusedAt 3 p → Verdict t
+  wrong-node : checked t ≡ refusedAt (refusalAt t (firstRefused t)) (firstRefused t) → Verdict t
+  loose-node : firstLoose t < nodes t → checked t ≡ refusedAt 9 (firstLoose t) → Verdict t
+  passed : Passed t → checked t ≡ report t → Verdict t
 
-    start : Dec (length t ≡ 0) → Dec (length t % 3 ≡ 0) → Dec (512 < nodes t) → Passed t × (report t ≡ counts xs)
-    start (yes z) y x = absurd (never _ _ _ (sym (unevenly t (not-even t (inl z))) ∙ e))
-    start (no z) (no y) x = absurd (never _ _ _ (sym (unevenly t (not-even t (inr y))) ∙ e))
-    start (no z) (yes y) (yes x) = absurd (never _ _ _ (sym (too-many t (even t z y) x) ∙ e))
-    start (no z) (yes y) (no x) =
-        let (right, tight, r) = ends (even t z y) (omega arith) (decLt (firstRefused t) (nodes t)) (decLt (firstLoose t) (nodes t)) in
-        (record { whole = omega arith; least = omega arith; most = omega arith; right = right; tight = tight }, r)
+pub verdict : (t : List ℕ) → Verdict t
+verdict t = start (ℕ-discrete (length t) 0) (ℕ-discrete (length t % 3) 0) (decLt 512 (nodes t))
+  where
+    node-by-node : (length t ≡ 0 → ⊥) → length t % 3 ≡ 0 → nodes t ≤ 512 → Dec (firstRefused t < nodes t) → Dec (firstLoose t < nodes t) → Verdict t
+    node-by-node z y x (yes w) v = wrong-node (walked t (even t z y) x ∙ rw (lt-ltb (firstRefused t) (nodes t) w))
+    node-by-node z y x (no w) (yes v) =
+        loose-node v (walked t (even t z y) x ∙ rw (le-ltb (firstRefused t) (nodes t) (omega arith), lt-ltb (firstLoose t) (nodes t) v))
+    node-by-node z y x (no w) (no v) =
+        passed
+        (record {
+          whole = omega arith;
+          least = omega arith;
+          most = x;
+          right = λ i h. omega (arith, ltb-false 0 (refusalAt t i) (lowest-least (isRefused t) (nodes t) 0 i (omega arith) (omega arith)));
+          tight = tight t (omega arith);
+        })
+        (walked t (even t z y) x ∙ rw (le-ltb (firstRefused t) (nodes t) (omega arith), le-ltb (firstLoose t) (nodes t) (omega arith)))
+
+    start : Dec (length t ≡ 0) → Dec (length t % 3 ≡ 0) → Dec (512 < nodes t) → Verdict t
+    start (yes z) y x = miscounted 0 (unevenly t (not-even t (inl z)))
+    start (no z) (no y) x = miscounted 0 (unevenly t (not-even t (inr y)))
+    start (no z) (yes y) (yes x) = miscounted 512 (too-many t (even t z y) x)
+    start (no z) (yes y) (no x) = node-by-node z y (omega arith) (decLt (firstRefused t) (nodes t)) (decLt (firstLoose t) (nodes t))
+
+-- accepted is never refused
+pub never : (xs : List ℕ) (r p : ℕ) → refusedAt r p ≡ counts xs → ⊥
+never xs r p e = let z : _≡_ {A = ℕ} 0 1 = cc in omega arith
+
+pub has-passed : (t xs : List ℕ) → checked t ≡ counts xs → Passed t × (report t ≡ counts xs)
+has-passed t xs e = go (verdict t)
+  where
+    go : Verdict t → Passed t × (report t ≡ counts xs)
+    go (miscounted p f) = absurd (never _ _ _ (sym f ∙ e))
+    go (wrong-node f) = absurd (never _ _ _ (sym f ∙ e))
+    go (loose-node h f) = absurd (never _ _ _ (sym f ∙ e))
+    go (passed x f) = (x, sym f ∙ e)
