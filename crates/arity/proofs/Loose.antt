@@ -17,11 +17,11 @@ module _ (t : List ℕ) where
   inside : (q : ℕ) → loose t q ≡ true → suc q < nodes t
   inside q h = ltb-true (suc q) (nodes t) (and-left (ltb (suc q) (nodes t)) _ h)
 
-  pub one-loose : firstLoose t < nodes t → loose t (firstLoose t) ≡ true
-  one-loose h = lowest-found (loose t) (nodes t) 0 (omega arith)
-
   pub not-lower : (q : ℕ) → q < firstLoose t → loose t q ≡ false
   not-lower q h = lowest-least (loose t) (nodes t) 0 q (omega arith) h
+
+  pub one-loose : firstLoose t < nodes t → loose t (firstLoose t) ≡ true
+  one-loose h = lowest-found (loose t) (nodes t) 0 (omega arith)
 
   first-is-loose : (q : ℕ) → loose t q ≡ true → loose t (firstLoose t) ≡ true
   first-is-loose q h = go (decLt q (firstLoose t))
