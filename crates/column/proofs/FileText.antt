@@ -1,5 +1,5 @@
 -- A file as its lines: lines that are right are the lines of their numbers, and the lines of a table are right and have its numbers.
-use Prim.Native.Nat.{ℕ, zero, suc, _+_, _-_, _*_, _≤_, _<_}
+use Prim.Native.Nat.{ℕ, zero, suc, _+_, _*_, _≤_, _<_}
 use mathlib.Core.Path.{_≡_, refl, sym, ap, ap₂, _∙_}
 use mathlib.Core.Bool.{Bool, true, false}
 use mathlib.Core.List.{List, [], _∷_, _++_, map, flatten, append-assoc}
@@ -7,18 +7,18 @@ use mathlib.Core.Option.{none}
 use native.Mathlib.Omega.{arith}
 use borrow.Author.Tests.{ne-eqb, eqb-true}
 use lib.Dec.{eqb}
-use lib.IntN.{ℤ, pos, negsuc}
-use lib.ListN.{length, getD, take, drop, replicate, length-append}
+use lib.IntN.{ℤ, pos}
+use lib.ListN.{length, getD, take, drop, length-append}
 use lib.Seq.{take-at, take-add, drop-at, drop-drop}
 use Rattle.word.specs.Word.{value}
 use Rattle.word.specs.Choice.{pick}
-use Rattle.word.specs.Tick.{Each, Words}
-use Rattle.word.proofs.Each.{each-append}
+use Rattle.word.specs.Tick.{Words}
 use Rattle.word.proofs.Lists.{first-true}
-use Rattle.column.specs.Number.{space, minus, decimal, numeral, column}
-use Rattle.column.specs.Line.{lineFeed, columns, nodeLine, lines, before, entries, lineRefusal}
+use Rattle.number.specs.Number.{column}
+use Rattle.number.specs.Row.{lineFeed, columns}
+use Rattle.column.specs.Line.{nodeLine, lines, before, entries, lineRefusal}
 use Rattle.column.specs.File.{linesRefusal, tableOf, node, lineOf, linesFrom}
-use Rattle.column.proofs.Decimal.{IsDigit, AllDigits, decimal-digits}
+use Rattle.number.proofs.NoFeed.{NoFeed, append-no-feed, column-no-feed, columns-no-feed}
 use Rattle.column.proofs.Judged.{or-left, or-right}
 use Rattle.column.proofs.Storing.{Right, line-right}
 use Rattle.column.proofs.Writes.{words-node, node-length}
@@ -70,37 +70,11 @@ lines-bytes i (l ∷ ls) r =
     let n : length (flatten ls) ≡ 41 * length ls = lines-bytes (suc i) ls (or-right (lineRefusal i l) (linesRefusal (suc i) ls) r) in
     omega (arith, length-append l (flatten ls))
 
--- no line feed stands in a column
-abbrev NoFeed : List ℕ → Type 0
-NoFeed bs = Each (λ b. b ≡ lineFeed → ⊥) bs
-
-append-no-feed : (xs ys : List ℕ) → NoFeed xs → NoFeed ys → NoFeed (xs ++ ys)
-append-no-feed = each-append (λ b. b ≡ lineFeed → ⊥)
-
-spaces-no-feed : (k : ℕ) → NoFeed (replicate k space)
-spaces-no-feed zero = tt
-spaces-no-feed (suc k) = (λ e. omega arith, spaces-no-feed k)
-
-digits-no-feed : (xs : List ℕ) → AllDigits xs → NoFeed xs
-digits-no-feed [] p = tt
-digits-no-feed (x ∷ xs) p = let d : IsDigit x = p .0 in (λ e. omega (arith, d .least), digits-no-feed xs (p .1))
-
-column-no-feed : (w : ℕ) (z : ℤ) → NoFeed (column w z)
-unfolding column numeral
-column-no-feed w (pos n) = append-no-feed (replicate (w - length (decimal n)) space) (decimal n) (spaces-no-feed (w - length (decimal n))) (digits-no-feed (decimal n) (decimal-digits n))
-column-no-feed w (negsuc n) =
-    append-no-feed (replicate (w - suc (length (decimal (suc n)))) space) (minus ∷ decimal (suc n)) (spaces-no-feed (w - suc (length (decimal (suc n)))))
-    (λ e. omega arith, digits-no-feed (decimal (suc n)) (decimal-digits (suc n)))
-
 -- a line that is put before others is their first line
 line-first : (body rest : List ℕ) → NoFeed body → lines (body ++ (lineFeed ∷ rest)) ≡ (body ++ (lineFeed ∷ [])) ∷ lines rest
 unfolding lines
 line-first [] rest p = refl
 line-first (b ∷ body) rest p = rw (ne-eqb b lineFeed (p .0), line-first body rest (p .1))
-
-columns-no-feed : (zs : List ℤ) → NoFeed (columns zs)
-columns-no-feed [] = tt
-columns-no-feed (z ∷ zs) = append-no-feed (column 12 z) (columns zs) (column-no-feed 12 z) (columns-no-feed zs)
 
 node-line-first : (i : ℕ) (zs : List ℤ) (rest : List ℕ) → lines (nodeLine i zs ++ rest) ≡ nodeLine i zs ∷ lines rest
 unfolding nodeLine

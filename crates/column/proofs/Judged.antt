@@ -14,14 +14,15 @@ use lib.Seq.{drop-drop, take-take, take-nil}
 use Rattle.refusal.specs.Answer.{Answer, refusedAt}
 use Rattle.word.specs.Word.{low}
 use Rattle.word.proofs.Lists.{first-true}
-use Rattle.column.specs.declared.Number.{Number}
-use Rattle.column.specs.declared.Number.the-variants.{Word, Malformed}
+use Rattle.number.specs.declared.Number.{Number}
+use Rattle.number.specs.declared.Number.the-variants.{Word, Malformed}
 use Rattle.column.specs.Checks.{_or_}
-use Rattle.column.specs.Number.{numberIn, fits}
+use Rattle.number.specs.Number.{numberIn, fits}
 use Rattle.column.specs.Line.{lines, whole, columnOf, isNode, numberRefusal, columnRefusal, lineRefusal, entries}
 use Rattle.column.specs.File.{linesRefusal}
-use Rattle.column.specs.Promises.{found, firstLine}
-use Rattle.column.proofs.Texts.{read-column}
+use Rattle.number.specs.Promises.{found}
+use Rattle.column.specs.Promises.{firstLine}
+use Rattle.number.proofs.Texts.{read-column}
 use Rattle.column.proofs.Lines.{lines-first, first-take, first-within}
 
 pub or-none : (a : Option Answer) → a or none ≡ a

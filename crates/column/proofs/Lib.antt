@@ -1,12 +1,4 @@
-pub mod Decimal
-pub mod Texts
-pub mod Parse
-pub mod Scan
-pub mod Stores
-pub mod Filling
-pub mod Put
 pub mod Lines
-pub mod Found
 pub mod Judged
 pub mod Checking
 pub mod Storing

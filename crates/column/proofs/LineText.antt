@@ -1,61 +1,32 @@
 -- A node's line and its columns: the line of a node is right, and a right line is the line of its node.
-use Prim.Native.Nat.{ℕ, zero, suc, _*_, _+_, _-_, _%_, _^_, _≤_, _<_}
+use Prim.Native.Nat.{ℕ, suc, _*_, _+_, _^_, _≤_, _<_}
 use mathlib.Core.Path.{_≡_, refl, sym, ap, ap₂, _∙_}
-use mathlib.Core.Bool.{true, not}
+use mathlib.Core.Bool.{not}
 use mathlib.Core.List.{List, [], _∷_, _++_, map, append-assoc}
 use mathlib.Core.Option.{Option, none, some}
-use native.Mathlib.Decide.{decLt}
 use native.Mathlib.Omega.{arith}
-use borrow.Author.Tests.{not-false, lt-ltb, ltb-true, eqb-true, eq-eqb, lt-leb}
+use borrow.Author.Tests.{not-false, lt-ltb, eqb-true, eq-eqb, lt-leb}
 use lib.Dec.{eqb}
 use lib.IntN.{ℤ, pos, negsuc}
 use lib.ListN.{length, getD, take, drop, take-append-drop, length-drop, drop-of-length-le}
-use lib.Seq.{getD-drop, take-at, drop-at, drop-append-add, drop-drop, drop-cons, length-take-le}
+use lib.Seq.{getD-drop, take-at, drop-at, drop-drop, drop-cons, length-take-le}
 use Rattle.refusal.specs.Answer.{refusedAt}
-use Rattle.word.specs.Word.{value, low}
+use Rattle.word.specs.Word.{value}
 use Rattle.word.specs.Tick.{Words}
 use Rattle.word.proofs.Each.{word-at}
-use Rattle.word.proofs.Low.{value-small, value-large, low-value}
+use Rattle.word.proofs.Low.{value-small, low-value}
 use Rattle.word.proofs.Lists.{first-true, second-true}
 use Rattle.column.specs.Checks.{when}
-use Rattle.column.specs.Number.{numeral, column, numberIn, fits, wordOf}
-use Rattle.column.specs.Line.{lineFeed, columns, nodeLine, columnOf, entries, isNode, numberRefusal, lineRefusal}
-use Rattle.column.proofs.Texts.{column-length, column-read, read-column}
+use Rattle.number.specs.Number.{numeral, column, numberIn, wordOf}
+use Rattle.number.specs.Row.{lineFeed, columns}
+use Rattle.column.specs.Line.{nodeLine, columnOf, entries, isNode, numberRefusal, lineRefusal}
+use Rattle.number.proofs.Texts.{column-length, column-read, read-column}
+use Rattle.number.proofs.Room.{value-fits, value-low}
+use Rattle.number.proofs.RowText.{drop-past, columns-part}
 use Rattle.column.proofs.Storing.{Right, when-none}
-use Rattle.column.proofs.Writes.{word-room, node-room, columns-length, node-line-length}
-
--- words and 32-bit numbers are one to one
-pub value-fits : (w : ℕ) → w < 2 ^ 32 → fits (value w) ≡ true
-value-fits w h = go (decLt w (2 ^ 31))
-  where
-    go : Dec (w < 2 ^ 31) → fits (value w) ≡ true
-    go (yes s) = rw (value-small w s) (lt-ltb w (2 ^ 31) s)
-    go (no l) = let b : 2 ^ 31 ≤ w = omega arith in rw (value-large w b) (lt-ltb (2 ^ 32 - suc w) (2 ^ 31) (omega arith))
-
-pub value-low : (z : ℤ) → fits z ≡ true → value (low z) ≡ z
-unfolding low
-value-low (pos n) f =
-    let b : n < 2 ^ 31 = ltb-true n (2 ^ 31) f in
-    let e : n % 2 ^ 32 ≡ n = omega arith in
-    rw e (value-small n b)
-value-low (negsuc n) f =
-    let b : n < 2 ^ 31 = ltb-true n (2 ^ 31) f in
-    let e : 2 ^ 32 - suc (2 ^ 32 - suc (n % 2 ^ 32)) ≡ n = omega arith in
-    value-large (2 ^ 32 - suc (n % 2 ^ 32)) (omega arith) ∙ rw e
-
-drop-past : (xs ys : List ℕ) (n m k : ℕ) → length xs ≡ n → k ≡ n + m → drop k (xs ++ ys) ≡ drop m ys
-drop-past xs ys n m k e q = rw (q, ← e) (drop-append-add xs ys m)
-
--- one of the columns side by side
-columns-part : (ws : List ℕ) (j : ℕ) (r : List ℕ) → Words ws → j < length ws → take 12 (drop (12 * j) (columns (map value ws) ++ r)) ≡ column 12 (value (getD ws j 0))
-columns-part [] j r w h = absurd (omega arith)
-columns-part (x ∷ ws) zero r (p, w) h =
-    rw (append-assoc (column 12 (value x)) (columns (map value ws)) r)
-    (take-at (column 12 (value x)) (columns (map value ws) ++ r) 12 (column-length 12 (value x) (word-room x p)))
-columns-part (x ∷ ws) (suc j) r (p, w) h =
-    rw (append-assoc (column 12 (value x)) (columns (map value ws)) r)
-    (ap (take 12) (drop-past (column 12 (value x)) (columns (map value ws) ++ r) 12 (12 * j) (12 * suc j) (column-length 12 (value x) (word-room x p)) (omega arith))
-    ∙ columns-part ws j r w (omega arith))
+use Rattle.number.proofs.Room.{word-room}
+use Rattle.column.proofs.Writes.{node-room, node-line-length}
+use Rattle.number.proofs.RowText.{columns-length}
 
 -- the line of node i with three words
 node-column : (i : ℕ) → i < 512 → length (numeral (pos i)) ≤ 4

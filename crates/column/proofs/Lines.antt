@@ -10,9 +10,10 @@ use lib.Dec.{eqb}
 use lib.ListN.{length, getD, take, drop, length-take, length-drop}
 use lib.Seq.{getD-take, getD-drop, drop-drop}
 use Rattle.word.specs.Choice.{pick}
-use Rattle.column.specs.Line.{lineFeed, lines, before, whole, columnOf}
+use Rattle.number.specs.Row.{lineFeed}
+use Rattle.column.specs.Line.{lines, before, whole, columnOf}
 use Rattle.column.specs.Promises.{firstLine}
-use Rattle.column.proofs.Scan.{drop-at}
+use Rattle.number.proofs.Scan.{drop-at}
 
 -- the length of the first line, byte by byte
 pub first-more : (file : List ℕ) (at : ℕ) → at < length file → (getD file at 0 ≡ lineFeed → ⊥) → length (firstLine (drop at file)) ≡ 1 + length (firstLine (drop (at + 1) file))

@@ -15,7 +15,8 @@ use Rattle.word.specs.Choice.{pick}
 use Rattle.word.specs.Tick.{Words, zeros}
 use Rattle.word.proofs.Each.{words-zeros}
 use Rattle.column.specs.Checks.{_or_}
-use Rattle.column.specs.Line.{lineFeed, lines, whole, lineRefusal}
+use Rattle.number.specs.Row.{lineFeed}
+use Rattle.column.specs.Line.{lines, whole, lineRefusal}
 use Rattle.column.specs.File.{linesRefusal, fileRefusal, reading, linesFrom}
 use Rattle.column.specs.Laws.{PrefixDecides, PrefixReads}
 use Rattle.column.specs.Promises.{firstLine}

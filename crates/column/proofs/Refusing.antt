@@ -13,7 +13,7 @@ use Rattle.refusal.specs.Answer.{Answer, count, refusedAt, refusedAll}
 use Rattle.refusal.specs.Answer.Answer.{counts, refused}
 use Rattle.column.specs.Checks.{when, _or_, unless}
 use Rattle.refusal.specs.Outcome.{Outcome, outcome}
-use Rattle.column.specs.Number.{numberIn}
+use Rattle.number.specs.Number.{numberIn}
 use Rattle.column.specs.Line.{lines, columnOf, whole, isNode, numberRefusal, columnRefusal, lineRefusal}
 use Rattle.column.specs.File.{linesRefusal, fileRefusal, tableOf, reading, linesFrom, countRefusal, writing}
 use Rattle.column.proofs.Judged.{or-left, or-right}

@@ -22,7 +22,7 @@ use Rattle.refusal.specs.Outcome.{outcome}
 use Rattle.column.specs.Line.{lines, whole, columnRefusal, lineRefusal, entries}
 use Rattle.column.specs.File.{linesRefusal, fileRefusal, tableOf, reading}
 use Rattle.column.proofs.Judged.{or-left, or-right, lines-some, lines-none, whole-line, entries-of-line}
-use Rattle.column.proofs.Stores.{sets-append, sets-front}
+use Rattle.number.proofs.Stores.{sets-append, sets-front}
 
 -- a line that is right
 pub record Right (i : ℕ) (l : List ℕ) : Type 0 where

@@ -1,22 +1,14 @@
--- What is proved of the number form, of a file or a table that goes out and comes back, and of a file's beginning.
+-- What is proved of a file or a table that goes out and comes back, and of a file's beginning.
 use Prim.Native.Nat.{ℕ, _*_, _/_, _≤_}
 use mathlib.Core.Path.{_≡_}
 use mathlib.Core.Logic.{_↔_}
-use mathlib.Core.Bool.{true}
 use mathlib.Core.List.{List, _++_}
-use mathlib.Core.Option.{some}
-use lib.IntN.{ℤ}
 use lib.ListN.{length, take, drop}
 use Rattle.refusal.specs.Answer.{count}
 use Rattle.refusal.specs.Outcome.{outcome}
 use Rattle.word.specs.Tick.{Words}
-use Rattle.column.specs.Number.{column, fits, numberIn}
 use Rattle.column.specs.Line.{enoughBytes}
 use Rattle.column.specs.File.{fileRefusal, reading, writing}
-
--- a column is read as z exactly if it is the text of z, a 32-bit number
-abbrev pub NumberLaw : Type 0
-NumberLaw = (text : List ℕ) (z : ℤ) → (numberIn text ≡ some z) ↔ ((column (length text) z ≡ text) × (fits z ≡ true))
 
 -- a file that is read and written again has the same bytes
 abbrev pub FileAgain : Type 0

@@ -9,10 +9,8 @@ use lib.ListN.{length, getD, take, drop}
 use Rattle.refusal.specs.Answer.{Answer, refusedAt}
 use Rattle.word.specs.Choice.{pick, _and_}
 use Rattle.column.specs.Checks.{when, _or_}
-use Rattle.column.specs.Number.{column, numberIn, wordOf}
-
-abbrev pub lineFeed : ℕ
-lineFeed = 10
+use Rattle.number.specs.Number.{column, numberIn, wordOf}
+use Rattle.number.specs.Row.{lineFeed, columns}
 
 abbrev pub lineBytes : ℕ
 lineBytes = 41
@@ -24,11 +22,6 @@ mostNodes = 512
 -- "20,993 bytes are enough": 512 lines and a byte of a 513th
 abbrev pub enoughBytes : ℕ
 enoughBytes = lineBytes * mostNodes + 1
-
--- numbers in columns of 12
-abbrev pub columns : List ℤ → List ℕ
-columns [] = []
-columns (z ∷ zs) = column 12 z ++ columns zs
 
 -- the line of node i with its kind, first and second
 unfoldable pub nodeLine : ℕ → List ℤ → List ℕ

@@ -1,13 +1,9 @@
 // Column files: a node table as lines of right-justified decimal numbers, read and written.
-mod columns;
 mod reader;
 mod writer;
 
-pub use columns::number as read_number;
-pub use columns::put_number;
 pub use reader::read;
 use refusal::Refusal;
-pub use writer::put_columns;
 pub use writer::write;
 
 // 4 columns, three times 12 and a line feed.
@@ -28,10 +24,4 @@ pub enum ReadAnswer {
 pub enum WriteAnswer {
     Bytes(u32),
     Refused(Refusal),
-}
-
-// A column as read: the word of a 32-bit number of the form, or no such number.
-pub enum Number {
-    Word(u32),
-    Malformed,
 }

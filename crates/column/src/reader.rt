@@ -5,17 +5,18 @@ ghost use Prim.Native.Nat.{_+_, _-_, _*_, _≤_, _<_};
 ghost use mathlib.Core.List.{_++_};
 ghost use lib.ListN.{length, drop};
 ghost use lib.Seq.{sets};
-ghost use Rattle.column.specs.Number.{numberIn, wordOf};
+ghost use Rattle.number.specs.Number.{numberIn, wordOf};
 ghost use Rattle.column.specs.Line.{columnOf, whole, lines, entries};
 ghost use Rattle.column.specs.File.{fileRefusal, tableOf, reading};
 ghost use Rattle.column.specs.Answers.{readAnswer};
-ghost use Rattle.column.specs.Promises.{LinesChecked, firstLine, found};
+ghost use Rattle.column.specs.Promises.{LinesChecked, firstLine};
+ghost use Rattle.number.specs.Promises.{found};
 ghost use Rattle.refusal.specs.Outcome.{outcome};
 use crate::LINE_BYTES;
 use crate::MOST_LINES;
-use crate::Number;
 use crate::ReadAnswer;
-use crate::columns::number;
+use number::Number;
+use number::read_number;
 use refusal::Refusal;
 
 // Whether the line that begins at `at` has 41 bytes, the last its line feed. However long the line is, only these are looked at.
@@ -44,11 +45,11 @@ fn column_at(file: &[u8], at: usize, j: usize) -> Number
 {
     if j == 0 {
         let end = at + 4;
-        return number(&file[at..end]);
+        return read_number(&file[at..end]);
     }
     let from = at + 4 + 12 * (j - 1);
     let end = from + 12;
-    number(&file[from..end])
+    read_number(&file[from..end])
 }
 
 // Checks line after line, and in a line column after column, up to the first that is wrong.

@@ -1,11 +1,8 @@
 // The writer: a table of 1 to 512 nodes as a column file.
 ghost use mathlib.Core.Path.{_≡_};
 ghost use Prim.Native.Nat.{_+_, _*_, _≤_, _<_};
-ghost use mathlib.Core.List.{_++_, map};
-ghost use Rattle.word.specs.Word.{value};
-ghost use Rattle.column.specs.Line.{columns};
+ghost use mathlib.Core.List.{_++_};
 ghost use lib.ListN.{length, drop};
-ghost use lib.Seq.{sets};
 ghost use Rattle.column.specs.File.{lineOf, linesFrom, writing};
 ghost use Rattle.column.specs.Answers.{writeAnswer};
 ghost use Rattle.refusal.specs.Outcome.{outcome};
@@ -13,41 +10,31 @@ use crate::LINE_BYTES;
 use crate::MOST_LINES;
 use crate::MOST_NODES;
 use crate::WriteAnswer;
-use crate::columns::put_number;
+use number::put_number;
+use number::put_row;
 use refusal::Refusal;
 
-// Numbers in columns of 12, from `from` on.
-pub fn put_columns(numbers: &[u32], file: &mut [u8], from: usize)
-    requires { ⌜ from + 12 * length (now numbers) ≤ length (now file) ⌝ }
-    ensures { λ _. ⌜ now (file .exit) ≡ sets (now (file .entry)) from (columns (map value (now (numbers .entry)))) ⌝ }
+// The line of a node, the whole of the lent line: its number in 4 columns, then its three in 12 each.
+fn put_line(table: &[u32], node: usize, line: &mut [u8])
+    requires { ⌜ (3 * node + 3 ≤ length (now table)) × ((node < 512) × (length (now line) ≡ 41)) ⌝ }
+    ensures { λ _. ⌜ now (line .exit) ≡ lineOf (now (table .entry)) node ⌝ }
 {
-    let mut j: usize = 0;
-    while j < numbers.len() {
-        put_number(file, from + 12 * j, 12, numbers[j]);
-        j += 1;
-    }
-}
-
-// The line of a node, from `from` on.
-fn put_line(table: &[u32], node: usize, file: &mut [u8], from: usize)
-    requires { ⌜ (3 * node + 3 ≤ length (now table)) × ((node < 512) × (from + 41 ≤ length (now file))) ⌝ }
-    ensures { λ _. ⌜ now (file .exit) ≡ sets (now (file .entry)) from (lineOf (now (table .entry)) node) ⌝ }
-{
-    put_number(file, from, 4, node as u32);
+    put_number(line, 0, 4, node as u32);
     let first = 3 * node;
     let end = first + 3;
-    put_columns(&table[first..end], file, from + 4);
-    file[from + 40] = b'\n';
+    put_row(&table[first..end], &mut line[4..LINE_BYTES]);
 }
 
-// The lines of all nodes.
+// The lines of all nodes, each lent the part of the file that is its line.
 fn put_lines(table: &[u32], nodes: usize, file: &mut [u8])
     requires { ⌜ (3 * nodes ≤ length (now table)) × ((nodes ≤ 512) × (41 * nodes ≤ length (now file))) ⌝ }
     ensures { λ _. ⌜ now (file .exit) ≡ linesFrom (now (table .entry)) 0 nodes ++ drop (41 * nodes) (now (file .entry)) ⌝ }
 {
     let mut node: usize = 0;
     while node < nodes {
-        put_line(table, node, file, LINE_BYTES * node);
+        let begin = LINE_BYTES * node;
+        let end = begin + LINE_BYTES;
+        put_line(table, node, &mut file[begin..end]);
         node += 1;
     }
 }

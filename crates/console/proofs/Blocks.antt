@@ -8,7 +8,7 @@ use Rattle.refusal.specs.Answer.{Answer}
 use Rattle.cells.specs.Block.{Ran, ranAs}
 use Rattle.flat.specs.Code.{inputCount, outputCount}
 use Rattle.flat.specs.Run.{ran}
-use Rattle.column.specs.Put.{Begins}
+use Rattle.number.specs.Put.{Begins}
 use Rattle.player.specs.Ticks.{blockText}
 use Rattle.console.specs.Block.{blockRan, BlockPut}
 

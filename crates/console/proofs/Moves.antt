@@ -5,9 +5,9 @@ use mathlib.Core.List.{List, [], _∷_, _++_}
 use native.Mathlib.Omega.{arith}
 use lib.ListN.{length, getD, set, take, drop, length-drop, take-append-drop}
 use lib.Seq.{drop-cons, length-take-le, getD-set-other}
-use Rattle.column.specs.Put.{Put, Begins}
-use Rattle.column.proofs.Stores.{begins-of, begins-within}
-use Rattle.column.proofs.Filling.{Filling, filling-start, filling-next, filling-end}
+use Rattle.number.specs.Put.{Put, Begins}
+use Rattle.number.proofs.Stores.{begins-of, begins-within}
+use Rattle.number.proofs.Filling.{Filling, filling-start, filling-next, filling-end}
 use Rattle.console.specs.Held.{Moved}
 
 pub record Moving (buffer₀ : List ℕ) (at count : ℕ) (buffer : List ℕ) (i : ℕ) : Type 0 where

@@ -7,7 +7,7 @@ use Rattle.word.specs.Tick.{zeros}
 use Rattle.cells.specs.Block.{Ran}
 use Rattle.flat.specs.Code.{inputCount, outputCount}
 use Rattle.flat.specs.Run.{ran}
-use Rattle.column.specs.Put.{Begins}
+use Rattle.number.specs.Put.{Begins}
 use Rattle.player.specs.Ticks.{blockText}
 
 -- the run of so many ticks on the samples that stand first

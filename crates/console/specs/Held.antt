@@ -2,7 +2,7 @@
 use Prim.Native.Nat.{ℕ, _-_, _≤_}
 use mathlib.Core.List.{List}
 use lib.ListN.{length, take, drop}
-use Rattle.column.specs.Put.{Begins}
+use Rattle.number.specs.Put.{Begins}
 use Rattle.console.specs.declared.held.Rest.{Rest}
 
 -- the rest lies in the buffer

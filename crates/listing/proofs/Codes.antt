@@ -6,8 +6,8 @@ use native.Mathlib.Omega.{arith}
 use lib.ListN.{length, take, drop, length-append, length-drop}
 use lib.Seq.{sets, length-sets, length-take-le, take-all}
 use Rattle.flat.specs.Code.{instructionCount, outputCount, resultsAt}
-use Rattle.column.specs.Put.{Put}
-use Rattle.column.proofs.Stores.{sets-append}
+use Rattle.number.specs.Put.{Put}
+use Rattle.number.proofs.Stores.{sets-append}
 use Rattle.word.specs.Tick.{Words}
 use Rattle.word.proofs.Each.{words-take, words-drop}
 use Rattle.listing.specs.Print.{line, rows, codeText}

@@ -19,8 +19,8 @@ use Rattle.column.specs.File.{fileRefusal, tableOf, reading}
 use Rattle.column.proofs.Refusing.{read-counted}
 use Rattle.column.proofs.Storing.{file-right, numbers-length}
 use Rattle.column.proofs.FileText.{lines-few}
-use Rattle.column.specs.Put.{Put, Begins}
-use Rattle.column.proofs.Stores.{begins-of}
+use Rattle.number.specs.Put.{Put, Begins}
+use Rattle.number.proofs.Stores.{begins-of}
 use Rattle.listing.specs.Print.{refusalText, tableText, fileText}
 
 module _ (file table : List ℕ) (a : ReadAnswer) (table′ : List ℕ) (q : outcome (readAnswer a) table′ ≡ reading file table) where

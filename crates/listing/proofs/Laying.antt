@@ -1,37 +1,31 @@
 -- The lines of a print as they are put.
 use Prim.Native.Nat.{ℕ, zero, suc, _+_, _-_, _*_, _≤_, _<_}
-use mathlib.Core.Path.{_≡_, refl, sym, ap, subst, _∙_}
-use mathlib.Core.List.{List, [], _∷_, _++_, map}
+use mathlib.Core.Path.{_≡_, refl, sym, subst, _∙_}
+use mathlib.Core.List.{List, _++_, map}
 use native.Mathlib.Omega.{arith}
 use native.Mathlib.Nat.{zero-mul, suc-mul}
-use lib.ListN.{length, set, take, drop, length-append, length-drop}
-use lib.Seq.{sets, length-take-le, drop-drop}
+use lib.ListN.{length, take, drop, length-append, length-drop}
+use lib.Seq.{length-take-le, drop-drop}
 use Rattle.word.specs.Word.{value}
 use Rattle.word.specs.Tick.{Words}
 use Rattle.word.proofs.Each.{words-take, words-drop}
-use Rattle.column.specs.Line.{lineFeed, columns}
-use Rattle.column.specs.Put.{Put}
-use Rattle.column.proofs.Stores.{sets-append}
-use Rattle.column.proofs.Filling.{Filling, filling-start, filling-room, filling-next, filling-end}
-use Rattle.column.proofs.Writes.{columns-length}
+use Rattle.number.specs.Row.{row}
+use Rattle.number.specs.Put.{Put}
+use Rattle.number.proofs.Stores.{part-put}
+use Rattle.number.proofs.Filling.{Filling, filling-start, filling-room, filling-next, filling-end}
+use Rattle.number.proofs.RowText.{row-length}
 use Rattle.listing.specs.Print.{line, rows}
 use Rattle.listing.specs.Steps.{Full, Rows}
 
 pub line-length : (ws : List ℕ) → Words ws → length (line ws) ≡ 12 * length ws + 1
 unfolding line
-line-length ws w = length-append (columns (map value ws)) (lineFeed ∷ []) ∙ ap (λ (n : ℕ). n + 1) (columns-length ws w)
+line-length ws w = row-length ws w
 
--- the columns, and behind them the line feed
-pub line-put : (ws f₀ f₁ : List ℕ) (from : ℕ) → Words ws → from + (12 * length ws + 1) ≤ length f₀ → f₁ ≡ sets f₀ from (columns (map value ws)) → Put (line ws) f₀ from (from + 12 * length ws + 1) (set f₁ (from + 12 * length ws) lineFeed)
+-- the row in its part of the text
+pub line-put : (ws text part : List ℕ) (from : ℕ) → Words ws → from + (12 * length ws + 1) ≤ length text → part ≡ row (map value ws) →
+    Put (line ws) text from (from + 12 * length ws + 1) (take from text ++ (part ++ drop (from + 12 * length ws + 1 - from) (drop from text)))
 unfolding line
-line-put ws f₀ f₁ from w h e =
-    let l : length (columns (map value ws)) ≡ 12 * length ws = columns-length ws w in
-    let n : length (columns (map value ws) ++ (lineFeed ∷ [])) ≡ length (columns (map value ws)) + 1 = length-append (columns (map value ws)) (lineFeed ∷ []) in
-    record {
-      next-is = omega arith;
-      within = omega arith;
-      put = sym (sets-append (columns (map value ws)) (lineFeed ∷ []) f₀ from ∙ rw (l, ← e));
-    }
+line-put ws text part from w h e = part-put (row (map value ws)) text part from (from + 12 * length ws + 1) (omega (arith, row-length ws w)) (omega arith) e
 
 pub rows-length : (w k : ℕ) (ws : List ℕ) → Words ws → Full w k ws → length (rows w k ws) ≡ k * (12 * w + 1)
 rows-length w zero ws v f = sym (zero-mul (12 * w + 1))

@@ -6,7 +6,7 @@ use Rattle.word.specs.Word.{low}
 use Rattle.refusal.specs.declared.Refusal.{Refusal}
 use Rattle.refusal.specs.Refusals.{numberOf, placeOf}
 use Rattle.listing.specs.Print.{line, refusalText}
-use Rattle.column.specs.Put.{Put}
+use Rattle.number.specs.Put.{Put}
 
 pub refusal-put : (r : Refusal) (a b : ℕ) (text : List ℕ) (n : ℕ) (text′ : List ℕ) → a ≡ numberOf r → b ≡ low (placeOf r) →
     Put (line (a ∷ b ∷ [])) text 0 n text′ → Put (refusalText (numberOf r) (placeOf r)) text 0 n text′

@@ -9,8 +9,8 @@ use Rattle.word.specs.Tick.{Words, zeros}
 use Rattle.word.proofs.Each.{words-of}
 use Rattle.refusal.specs.declared.Refusal.{Refusal}
 use Rattle.refusal.specs.Refusals.{numberOf, placeOf}
-use Rattle.column.specs.Put.{Put, Begins}
-use Rattle.column.proofs.Stores.{begins-of}
+use Rattle.number.specs.Put.{Put, Begins}
+use Rattle.number.proofs.Stores.{begins-of}
 use Rattle.flat.specs.Check.{codeOk}
 use Rattle.flat.proofs.Decoded.{code-header}
 use Rattle.translator.specs.declared.TranslateAnswer.{TranslateAnswer}

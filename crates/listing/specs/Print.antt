@@ -8,7 +8,8 @@ use Rattle.word.specs.Word.{value, low}
 use Rattle.word.specs.Tick.{zeros, headOr}
 use Rattle.refusal.specs.Answer.{Answer}
 use Rattle.refusal.specs.Answer.Answer.{counts, refused}
-use Rattle.column.specs.Line.{lineFeed, columns, lines}
+use Rattle.number.specs.Row.{row}
+use Rattle.column.specs.Line.{lines}
 use Rattle.column.specs.File.{fileRefusal, tableOf}
 use Rattle.flat.specs.Flat.{width}
 use Rattle.flat.specs.Code.{header, instructionCount, outputCount, resultsAt}
@@ -17,7 +18,7 @@ use Rattle.translator.specs.Translate.{translatedTable}
 
 -- numbers on a line, "each number in 12 columns"
 unfoldable pub line : List ℕ → List ℕ
-line ws = columns (map value ws) ++ (lineFeed ∷ [])
+line ws = row (map value ws)
 
 -- k lines of w numbers each
 abbrev pub rows : (w k : ℕ) → List ℕ → List ℕ

@@ -1,6 +1,6 @@
 // The translator's print: the code of a column file as text, or number and place of the refusal.
 use column::ReadAnswer;
-use column::put_columns;
+use number::put_row;
 use refusal::Refusal;
 use translator::TranslateAnswer;
 use word::index;
@@ -8,18 +8,17 @@ ghost use Prim.Native.Nat.{_+_, _*_, _≤_};
 ghost use lib.ListN.{length};
 ghost use Rattle.refusal.specs.Refusals.{numberOf, placeOf};
 ghost use Rattle.listing.specs.Print.{line, rows, codeText, refusalText, tableText, fileText};
-ghost use Rattle.column.specs.Put.{Put, Begins};
+ghost use Rattle.number.specs.Put.{Put, Begins};
 ghost use Rattle.listing.specs.Steps.{Rows, Listable};
 
-// Numbers in 12 columns each and a line feed, from `from` on; gives where the next line begins.
+// A line of numbers from `from` on, in the part of the text that is lent for it; gives where the next line begins.
 fn put_line(numbers: &[u32], text: &mut [u8], from: usize) -> usize
     requires { ⌜ from + (12 * length (now numbers) + 1) ≤ length (now text) ⌝ }
     ensures { λ r. ⌜ Put (line (now (numbers .entry))) (now (text .entry)) from r (now (text .exit)) ⌝ }
 {
-    put_columns(numbers, text, from);
-    let end = from + 12 * numbers.len();
-    text[end] = b'\n';
-    end + 1
+    let end = from + 12 * numbers.len() + 1;
+    put_row(numbers, &mut text[from..end]);
+    end
 }
 
 // As many lines as `count`, of `width` numbers each.

@@ -12,7 +12,7 @@ use lib.ListN.{length, drop}
 use Rattle.word.specs.Choice.{pick, _and_}
 use Rattle.word.specs.Word.{low}
 use Rattle.word.specs.Tick.{headOr}
-use Rattle.column.specs.Number.{same, numberIn}
+use Rattle.number.specs.Number.{same, numberIn}
 use Rattle.column.specs.Line.{lines}
 use Rattle.player.specs.declared.samples.Stop.the-variants.{Full, Rest}
 use Rattle.player.specs.declared.samples.Kind.{Kind}

@@ -10,7 +10,7 @@ use borrow.Author.Tests.{lt-ltb}
 use lib.ListN.{length, take, drop}
 use Rattle.word.specs.Word.{low}
 use Rattle.word.specs.Tick.{tick, zeros}
-use Rattle.column.specs.Number.{digits, decimal, numeral, column, candidate, numberIn}
+use Rattle.number.specs.Number.{digits, decimal, numeral, column, candidate, numberIn}
 use Rattle.column.specs.Line.{lines}
 use Rattle.column.specs.File.{fileRefusal, reading}
 use Rattle.player.specs.declared.samples.Block.{Block}

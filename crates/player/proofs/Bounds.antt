@@ -15,9 +15,9 @@ use lib.Seq.{drop-drop, take-at}
 use Rattle.word.specs.Choice.{pick, _and_}
 use Rattle.word.specs.Word.{low}
 use Rattle.word.specs.Tick.{headOr}
-use Rattle.column.specs.Number.{same, numberIn}
+use Rattle.number.specs.Number.{same, numberIn}
 use Rattle.column.specs.Line.{lines}
-use Rattle.column.proofs.Stores.{sets-front}
+use Rattle.number.proofs.Stores.{sets-front}
 use Rattle.player.specs.declared.samples.Block.{Block}
 use Rattle.player.specs.declared.samples.Stop.{Stop}
 use Rattle.player.specs.declared.samples.Stop.the-variants.{Full, Rest, Control, Malformed}

@@ -4,7 +4,7 @@ use mathlib.Core.Path.{_≡_, refl}
 use mathlib.Core.List.{List, [], _∷_, map, flatten}
 use Rattle.word.specs.Word.{low}
 use Rattle.word.specs.Tick.{tick, zeros}
-use Rattle.column.specs.Number.{digits, decimal, numeral, column, candidate, numberIn}
+use Rattle.number.specs.Number.{digits, decimal, numeral, column, candidate, numberIn}
 use Rattle.column.specs.Line.{lines}
 use Rattle.player.specs.declared.samples.Stop.the-variants.{Full, Rest, Control, Malformed}
 use Rattle.player.specs.Samples.{circuitPart, samplesPart, words, said, starting, reads, blockRead, history, asked}

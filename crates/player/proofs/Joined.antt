@@ -9,7 +9,8 @@ use lib.ListN.{length, drop, length-append, drop-of-length-le}
 use lib.Seq.{drop-drop}
 use Rattle.word.specs.Choice.{pick}
 use Rattle.word.specs.Tick.{Tick, tick}
-use Rattle.column.specs.Line.{lineFeed, lines}
+use Rattle.number.specs.Row.{lineFeed}
+use Rattle.column.specs.Line.{lines}
 use Rattle.column.specs.Promises.{firstLine}
 use Rattle.column.proofs.Lines.{lines-first}
 use Rattle.player.specs.declared.samples.Stop.the-variants.{Full, Rest}

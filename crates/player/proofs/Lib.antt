@@ -12,7 +12,6 @@ pub mod Reading
 pub mod Splits
 pub mod Joined
 pub mod Bounds
-pub mod Exact
 pub mod TickLines
 mod TickExamples
 pub mod Examples

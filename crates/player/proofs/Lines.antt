@@ -11,10 +11,10 @@ use lib.IntN.{ℤ}
 use lib.ListN.{length, take, drop, set, length-set}
 use lib.Seq.{sets}
 use Rattle.word.specs.Choice.{_and_}
-use Rattle.column.specs.declared.Number.{Number}
-use Rattle.column.specs.declared.Number.the-variants.{Word, Malformed}
-use Rattle.column.specs.Number.{numberIn}
-use Rattle.column.specs.Promises.{found}
+use Rattle.number.specs.declared.Number.{Number}
+use Rattle.number.specs.declared.Number.the-variants.{Word, Malformed}
+use Rattle.number.specs.Number.{numberIn}
+use Rattle.number.specs.Promises.{found}
 use Rattle.player.specs.declared.samples.Span.{Span}
 use Rattle.player.specs.Samples.{words, wordIn, isNumber, areNumbers, isTick}
 use Rattle.player.specs.Promises.{FirstWord}

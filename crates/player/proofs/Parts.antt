@@ -9,8 +9,8 @@ use borrow.Author.Tests.{eqb-true, eq-eqb}
 use lib.Dec.{eqb}
 use lib.ListN.{length, getD, take, drop, drop-of-length-le, length-append}
 use Rattle.word.specs.Choice.{pick, _and_}
-use Rattle.column.specs.Line.{lineFeed}
-use Rattle.column.proofs.Scan.{drop-at}
+use Rattle.number.specs.Row.{lineFeed}
+use Rattle.number.proofs.Scan.{drop-at}
 use Rattle.player.specs.Samples.{upToEmpty, circuitPart, samplesPart}
 use Rattle.player.specs.Laws.{CircuitOfFirst, InputParts}
 

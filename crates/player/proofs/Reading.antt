@@ -8,8 +8,9 @@ use native.Mathlib.Omega.{arith}
 use borrow.Author.Tests.{eq-eqb, ne-eqb, lt-ltb, le-ltb}
 use lib.ListN.{length, take, drop, length-map, length-drop}
 use lib.Seq.{sets, length-sets, drop-drop}
-use Rattle.column.specs.Line.{lineFeed, lines}
-use Rattle.column.proofs.Stores.{sets-append}
+use Rattle.number.specs.Row.{lineFeed}
+use Rattle.column.specs.Line.{lines}
+use Rattle.number.proofs.Stores.{sets-append}
 use Rattle.player.specs.declared.samples.Stop.{Stop}
 use Rattle.player.specs.declared.samples.Stop.the-variants.{Full, Rest, Control as AtControl, Malformed as AtMalformed}
 use Rattle.player.specs.declared.samples.Kind.{Kind}

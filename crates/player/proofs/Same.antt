@@ -8,8 +8,8 @@ use borrow.Author.Tests.{eq-eqb, ne-eqb}
 use lib.Dec.{eqb}
 use lib.ListN.{length, getD, drop, drop-of-length-le}
 use Rattle.word.specs.Choice.{_and_}
-use Rattle.column.specs.Number.{same}
-use Rattle.column.proofs.Scan.{drop-at}
+use Rattle.number.specs.Number.{same}
+use Rattle.number.proofs.Scan.{drop-at}
 
 pub other-length : (a b : List ℕ) → (length a ≡ length b → ⊥) → same a b ≡ false
 other-length [] [] n = absurd (n refl)

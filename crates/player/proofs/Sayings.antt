@@ -8,7 +8,7 @@ use native.Mathlib.Omega.{arith}
 use borrow.Author.Tests.{lt-ltb, le-ltb}
 use lib.ListN.{length, drop}
 use Rattle.word.specs.Tick.{headOr}
-use Rattle.column.specs.Number.{same}
+use Rattle.number.specs.Number.{same}
 use Rattle.player.specs.declared.samples.Span.{Span}
 use Rattle.player.specs.declared.samples.Kind.the-variants.{Tick, Malformed}
 use Rattle.player.specs.Samples.{words, isTick, controlSaid, controlWord, longestLine, said}

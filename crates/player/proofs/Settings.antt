@@ -11,11 +11,11 @@ use lib.IntN.{ℤ}
 use lib.ListN.{drop}
 use Rattle.word.specs.Choice.{pick}
 use Rattle.word.specs.Word.{low}
-use Rattle.column.specs.declared.Number.{Number}
-use Rattle.column.specs.declared.Number.the-variants.{Word, Malformed}
-use Rattle.column.specs.Number.{numberIn}
-use Rattle.column.specs.Promises.{found}
-use Rattle.column.proofs.Parse.{number-empty}
+use Rattle.number.specs.declared.Number.{Number}
+use Rattle.number.specs.declared.Number.the-variants.{Word, Malformed}
+use Rattle.number.specs.Number.{numberIn}
+use Rattle.number.specs.Promises.{found}
+use Rattle.number.proofs.Parse.{number-empty}
 use Rattle.player.specs.declared.samples.Span.{Span}
 use Rattle.player.specs.declared.samples.Kind.the-variants.{Control, Malformed as Other}
 use Rattle.player.specs.Samples.{words, setting, controlSaid}

@@ -9,7 +9,8 @@ use lib.ListN.{length, drop}
 use lib.Seq.{drop-append-le}
 use Rattle.word.specs.Choice.{pick}
 use Rattle.word.specs.Tick.{tailOf}
-use Rattle.column.specs.Line.{lineFeed, lines}
+use Rattle.number.specs.Row.{lineFeed}
+use Rattle.column.specs.Line.{lines}
 use Rattle.column.specs.Promises.{firstLine}
 use Rattle.column.proofs.Lines.{lines-first, first-within}
 use Rattle.player.specs.Samples.{whole}

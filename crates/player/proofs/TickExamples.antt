@@ -2,7 +2,7 @@
 use mathlib.Core.Path.{_≡_, refl}
 use mathlib.Core.List.{[], _∷_}
 use Rattle.word.specs.Word.{value}
-use Rattle.column.specs.Number.{digits, decimal, numeral}
+use Rattle.number.specs.Number.{digits, decimal, numeral}
 use Rattle.player.specs.Ticks.{blockText}
 
 -- two ticks of two outputs: "1 -1" and "0 12"

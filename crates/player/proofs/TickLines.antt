@@ -11,12 +11,12 @@ use lib.Seq.{drop-cons, drop-drop}
 use Rattle.word.specs.Word.{value}
 use Rattle.word.specs.Tick.{Words}
 use Rattle.word.proofs.Each.{words-take, words-drop}
-use Rattle.column.specs.Number.{space, numeral}
-use Rattle.column.specs.Line.{lineFeed}
-use Rattle.column.specs.Put.{Put, Begins}
-use Rattle.column.proofs.Stores.{begins-of}
-use Rattle.column.proofs.Writes.{numeral-room}
-use Rattle.column.proofs.Filling.{Filling, filling-room, filling-next, filling-last, filling-end}
+use Rattle.number.specs.Number.{space, numeral}
+use Rattle.number.specs.Row.{lineFeed}
+use Rattle.number.specs.Put.{Put, Begins}
+use Rattle.number.proofs.Stores.{begins-of}
+use Rattle.number.proofs.Room.{numeral-room}
+use Rattle.number.proofs.Filling.{Filling, filling-room, filling-next, filling-last, filling-end}
 use Rattle.player.specs.Ticks.{tickLine, ticksText, blockText}
 
 -- the line of a tick without outputs

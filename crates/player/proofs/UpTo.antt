@@ -8,7 +8,7 @@ use borrow.Author.Tests.{eq-eqb, ne-eqb}
 use lib.Dec.{eqb}
 use lib.ListN.{length, getD, take, drop, drop-of-length-le}
 use Rattle.word.specs.Choice.{pick}
-use Rattle.column.proofs.Scan.{drop-at}
+use Rattle.number.proofs.Scan.{drop-at}
 use Rattle.player.specs.Samples.{upTo}
 use Rattle.player.specs.Promises.{FirstByte}
 

@@ -9,7 +9,8 @@ use lib.Dec.{eqb}
 use lib.ListN.{length, drop, length-append}
 use lib.Seq.{drop-length}
 use Rattle.word.specs.Choice.{pick}
-use Rattle.column.specs.Line.{lineFeed, lines}
+use Rattle.number.specs.Row.{lineFeed}
+use Rattle.column.specs.Line.{lines}
 use Rattle.column.specs.Promises.{firstLine}
 use Rattle.column.proofs.Lines.{lines-first}
 use Rattle.player.specs.Samples.{textOf, whole}

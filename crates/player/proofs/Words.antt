@@ -8,9 +8,9 @@ use borrow.Author.Tests.{eq-eqb, ne-eqb}
 use lib.Dec.{eqb}
 use lib.ListN.{length, getD, drop, drop-of-length-le}
 use lib.Seq.{drop-drop}
-use Rattle.column.specs.Number.{space}
+use Rattle.number.specs.Number.{space}
 use Rattle.column.specs.Line.{before}
-use Rattle.column.proofs.Scan.{drop-at}
+use Rattle.number.proofs.Scan.{drop-at}
 use Rattle.player.specs.Samples.{upTo, pieces, nonEmpty, words}
 use Rattle.player.specs.Promises.{FirstByte, FirstWord}
 use Rattle.player.proofs.UpTo.{up-to-more, up-to-take}

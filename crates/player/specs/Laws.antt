@@ -7,7 +7,8 @@ use mathlib.Core.Logic.{_⊎_}
 use mathlib.Core.Option.{none}
 use lib.ListN.{length, take, drop, set}
 use Rattle.word.specs.Tick.{Tick, tick}
-use Rattle.column.specs.Line.{enoughBytes, lineFeed, lines}
+use Rattle.column.specs.Line.{enoughBytes, lines}
+use Rattle.number.specs.Row.{lineFeed}
 use Rattle.column.specs.File.{fileRefusal, reading}
 use Rattle.player.specs.declared.samples.Stop.{Stop}
 use Rattle.player.specs.declared.samples.Stop.the-variants.{Full, Rest, Control, Malformed}

@@ -10,8 +10,9 @@ use lib.Seq.{sets}
 use Rattle.word.specs.Choice.{pick, _and_}
 use Rattle.word.specs.Word.{low}
 use Rattle.word.specs.Tick.{Tick, tick, headOr, zeros}
-use Rattle.column.specs.Number.{space, same, contains, numberIn, wordOf}
-use Rattle.column.specs.Line.{lineFeed, lines, before}
+use Rattle.number.specs.Number.{space, same, contains, numberIn, wordOf}
+use Rattle.number.specs.Row.{lineFeed}
+use Rattle.column.specs.Line.{lines, before}
 use Rattle.player.specs.declared.samples.Stop.{Stop}
 use Rattle.player.specs.declared.samples.Stop.the-variants.{Full, Rest, Control, Malformed}
 use Rattle.player.specs.declared.samples.Block.{Block}

@@ -5,8 +5,8 @@ use lib.Dec.{leb}
 use lib.ListN.{take, drop}
 use Rattle.word.specs.Choice.{pick, _and_}
 use Rattle.word.specs.Word.{value}
-use Rattle.column.specs.Number.{space, numeral}
-use Rattle.column.specs.Line.{lineFeed}
+use Rattle.number.specs.Number.{space, numeral}
+use Rattle.number.specs.Row.{lineFeed}
 use Rattle.player.specs.Samples.{mostTicks}
 
 -- the line of a tick with these outputs; without outputs it is empty

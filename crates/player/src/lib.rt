@@ -1,5 +1,4 @@
 // A circuit on samples that stand in text: the lines of samples read, the lines of ticks put.
-mod numerals;
 mod samples;
 mod ticks;
 

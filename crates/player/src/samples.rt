@@ -4,11 +4,11 @@ ghost use Prim.Native.Nat.{_+_, _≤_};
 ghost use mathlib.Core.List.{map};
 ghost use lib.ListN.{length, drop};
 ghost use lib.Seq.{sets};
-ghost use Rattle.column.specs.Number.{same};
+ghost use Rattle.number.specs.Number.{same};
 ghost use Rattle.player.specs.Samples.{circuitPart, words, wordIn, isTick, controlSaid, said as lineSaid, blockRead, reads};
 ghost use Rattle.player.specs.Promises.{FirstByte, FirstWord, kindOf};
-use column::Number;
-use column::read_number as number;
+use number::Number;
+use number::read_number;
 
 // A block has at most 256 ticks.
 const MOST_TICKS: usize = 256;
@@ -104,7 +104,7 @@ fn next_word(line: &[u8], at: usize) -> Span
 fn word_of(text: &[u8]) -> u32
     ensures { λ r. ⌜ r ≡ wordIn (now (text .entry)) ⌝ }
 {
-    let read = number(text);
+    let read = read_number(text);
     match read {
         Number::Word(word) => word,
         Number::Malformed => 0,
@@ -124,7 +124,7 @@ fn is_tick(line: &[u8], inputs: usize) -> bool
         if begin == end {
             return count == inputs;
         }
-        let read = number(&line[begin..end]);
+        let read = read_number(&line[begin..end]);
         let Number::Word(_) = read else {
             return false;
         };
@@ -178,14 +178,14 @@ fn setting(line: &[u8], at: usize) -> Kind
     let first = next_word(line, at);
     let begin = first.begin;
     let end = first.end;
-    let slot_read = number(&line[begin..end]);
+    let slot_read = read_number(&line[begin..end]);
     let Number::Word(slot) = slot_read else {
         return Kind::Malformed;
     };
     let second = next_word(line, end);
     let value_begin = second.begin;
     let value_end = second.end;
-    let value_read = number(&line[value_begin..value_end]);
+    let value_read = read_number(&line[value_begin..value_end]);
     let Number::Word(value) = value_read else {
         return Kind::Malformed;
     };

@@ -1,10 +1,9 @@
 // Ticks as text: a line a tick, its outputs as numerals with a space between.
-ghost use mathlib.Core.Path.{_≡_};
 ghost use Prim.Native.Nat.{_+_, _*_, _≤_};
 ghost use lib.ListN.{length};
-ghost use Rattle.column.specs.Put.{Put, Begins};
+ghost use Rattle.number.specs.Put.{Put, Begins};
 ghost use Rattle.player.specs.Ticks.{tickLine, ticksText, blockText};
-use crate::numerals::put_numeral;
+use number::put_numeral;
 
 // The line of a tick, from `from` on; gives where the next line begins.
 fn put_tick(outputs: &[u32], text: &mut [u8], from: usize) -> usize

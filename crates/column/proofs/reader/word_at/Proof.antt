@@ -1,9 +1,9 @@
 -- `column::reader::word_at` meets its contract.
 use lib.ListN.{drop}
-use Rattle.column.specs.Number.{numberIn}
+use Rattle.number.specs.Number.{numberIn}
 use Rattle.column.specs.Line.{columnOf}
 use borrow.Author.Needs.{needs}
-use Rattle.column.proofs.Found.{found-word, found-none}
+use Rattle.number.proofs.Found.{found-word, found-none}
 use Rattle.column.proofs.reader.word_at.Statement.{statement}
 use Rattle.column.proofs.reader.word_at.Tie as tie
 

@@ -1,10 +1,7 @@
--- `column::writer::put_line` meets its contract: the node number, the three numbers and a line feed, side by side.
-use mathlib.Core.Path.{_∙_}
+-- `column::writer::put_line` meets its contract: the number in its column, and the row of the three behind it.
 use native.Mathlib.Omega.{arith}
 use borrow.Author.Needs.{needs}
-use lib.ListN.{length-set}
-use Rattle.word.proofs.Each.{words-of}
-use Rattle.column.proofs.Writes.{node-room, put-node-line}
+use Rattle.column.proofs.Writes.{node-room, node-line-put}
 use Rattle.column.proofs.writer.put_line.Statement.{statement}
 use Rattle.column.proofs.writer.put_line.Tie as tie
 
@@ -20,43 +17,35 @@ mul-first c = search needs
 add-end : tie.Need-add-end
 add-end c = search needs
 
-mul-put-columns : tie.Need-mul-put-columns
-mul-put-columns c = search needs
+mul-put-row : tie.Need-mul-put-row
+mul-put-row c = search needs
 
-sub-put-columns : tie.Need-sub-put-columns
-sub-put-columns c = search needs
+sub-put-row : tie.Need-sub-put-row
+sub-put-row c = search needs
 
-part-put-columns-start : tie.Need-part-put-columns-start
-part-put-columns-start c = search needs
+part-put-row-start : tie.Need-part-put-row-start
+part-put-row-start c = search needs
 
-part-put-columns-end : tie.Need-part-put-columns-end
-part-put-columns-end c = search needs
+part-put-row-end : tie.Need-part-put-row-end
+part-put-row-end c = search needs
 
-add-put-columns : tie.Need-add-put-columns
-add-put-columns c = search needs
+sub-put-row-2 : tie.Need-sub-put-row-2
+sub-put-row-2 c = search needs
 
-put-columns-requires : tie.Need-put-columns-requires
-put-columns-requires c κs = search needs
+part-put-row-start-2 : tie.Need-part-put-row-start-2
+part-put-row-start-2 c = search needs
 
-add-file : tie.Need-add-file
-add-file c = search needs
+part-put-row-end-2 : tie.Need-part-put-row-end-2
+part-put-row-end-2 c = search needs
 
-slice-write-file : tie.Need-slice-write-file
-slice-write-file c = search needs
+put-row-requires : tie.Need-put-row-requires
+put-row-requires c κs = search needs
 
 same-length : tie.Need-same-length
-same-length c =
-    let put-number = c .before .before .before .before .before .before .before .put-number in
-    simp length-set (c .before .before .put-columns .kept .1 .0 ∙ put-number .kept .0)
+same-length c = search needs
 
 returns : tie.Need-returns
-returns c =
-    let a = c .before .before .before .before .before .before .before .before .before .before .before .args in
-    let s = c .before .before .before .before .before .before .before .before .before .before .before in
-    let shared-slice-known = c .before .before .before .before .before .before .before .before .before .before .shared-slice-known in
-    let put-number = c .before .before .before .before .before .before .before .put-number in
-    put-node-line (a .table .now) (a .node) (a .file .now) _ _ (a .from) (words-of (a .table .now) (λ k. shared-slice-known .given k .fits)) (s .pre .1 .0) (s .pre .0) (put-number .ensures)
-    (c .before .before .put-columns .ensures)
+returns c = node-line-put _ _ _ _ _ (search needs) (search needs) (c .before .before .before .before .before .before .before .put-number .ensures) (c .before .before .put-row .ensures)
 
 pub put-line-spec : {M : Type 1} → statement M
 put-line-spec =
@@ -66,13 +55,13 @@ put-line-spec =
     put-number-requires
     mul-first
     add-end
-    mul-put-columns
-    sub-put-columns
-    part-put-columns-start
-    part-put-columns-end
-    add-put-columns
-    put-columns-requires
-    add-file
-    slice-write-file
+    mul-put-row
+    sub-put-row
+    part-put-row-start
+    part-put-row-end
+    sub-put-row-2
+    part-put-row-start-2
+    part-put-row-end-2
+    put-row-requires
     same-length
     returns)

@@ -1,4 +1,4 @@
--- `column::writer::put_lines` meets its contract: the lines that are left complete those that are written.
+-- `column::writer::put_lines` meets its contract: line after line, each in the part of the file that is lent for it.
 use Prim.Native.Nat.{_-_}
 use native.Mathlib.Omega.{arith}
 use borrow.Author.Needs.{needs}
@@ -14,12 +14,22 @@ abbrev μ-loop : tie.MeasureT-loop
 μ-loop table nodes file₀ node₀ file node = nodes - node
 
 loop-holds : tie.Need-loop-holds Inv-loop μ-loop
-loop-holds c =
-    let a = c .before .before .args in
-    writing-starts (a .table .now) (a .nodes) (a .file .now)
+loop-holds c = writing-starts _ _ _
 
-mul-put-line : tie.Need-mul-put-line Inv-loop μ-loop
-mul-put-line c = search needs
+mul-begin : tie.Need-mul-begin Inv-loop μ-loop
+mul-begin c = search needs
+
+add-end : tie.Need-add-end Inv-loop μ-loop
+add-end c = search needs
+
+sub-put-line : tie.Need-sub-put-line Inv-loop μ-loop
+sub-put-line c = search needs
+
+part-put-line-start : tie.Need-part-put-line-start Inv-loop μ-loop
+part-put-line-start c = search needs
+
+part-put-line-end : tie.Need-part-put-line-end Inv-loop μ-loop
+part-put-line-end c = omega (arith, c .before .loop .inv .long)
 
 put-line-requires : tie.Need-put-line-requires Inv-loop μ-loop
 put-line-requires c κs = omega (arith, c .before .before .loop .inv .long)
@@ -32,20 +42,16 @@ loop-less c = search needs
 
 loop-again : tie.Need-loop-again Inv-loop μ-loop
 loop-again c =
-    let a = c .before .before .before .before .before .before .before .before .args in
     let s = c .before .before .before .before .before .before .before .before in
     let l = c .before .before .before .before .before .loop in
-    let shared-slice-known = c .before .before .before .before .before .before .before .shared-slice-known in
-    writing-next _ (a .nodes) _ (l .file) (l .node) _ (words-of (a .table .now) (λ k. shared-slice-known .given k .fits)) (omega arith) (s .pre .0) (c .before .before .before .before .loop-test .taken) (c .before .before .put-line .ensures) (l .inv)
+    writing-next _ (s .args .nodes) _ (l .file) (l .node) _ (words-of (s .args .table .now) (λ k. c .before .before .before .before .before .before .before .shared-slice-known .given k .fits)) (s .pre .1 .0) (s .pre .0) (s .pre .1 .1)
+    (c .before .before .before .before .loop-test .taken) (c .before .before .put-line .ensures) (l .inv)
 
 same-length : tie.Need-same-length Inv-loop μ-loop
 same-length c = c .before .loop .inv .long
 
 returns : tie.Need-returns Inv-loop μ-loop
-returns c =
-    let l = c .before .loop in
-    writing-ends _ (c .before .before .before .before .args .nodes) _ (l .file) (l .node) (words-of (c .before .before .before .before .args .table .now) (λ k. c .before .before .before .shared-slice-known .given k .fits)) (omega arith) (c .before .before .before .before .pre .0) (c .loop-test .left) (omega arith)
-    (l .inv)
+returns c = writing-ends _ _ _ (c .before .loop .file) (c .before .loop .node) (c .loop-test .left) (c .before .loop .inv)
 
 pub put-lines-spec : {M : Type 1} → statement M
 put-lines-spec =
@@ -54,7 +60,11 @@ put-lines-spec =
     Inv-loop
     μ-loop
     loop-holds
-    mul-put-line
+    mul-begin
+    add-end
+    sub-put-line
+    part-put-line-start
+    part-put-line-end
     put-line-requires
     add-node
     loop-less

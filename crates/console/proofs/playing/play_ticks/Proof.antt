@@ -1,7 +1,7 @@
 -- `console::playing::play_ticks` is safe: the lines lie within the text.
 use mathlib.Core.Path.{sym}
 use lib.Seq.{length-take-le}
-use Rattle.column.proofs.Stores.{begins-within}
+use Rattle.number.proofs.Stores.{begins-within}
 use borrow.Author.Needs.{needs}
 use Rattle.console.proofs.playing.play_ticks.Statement.{statement}
 use Rattle.console.proofs.playing.play_ticks.Tie as tie

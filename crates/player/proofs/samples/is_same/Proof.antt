@@ -4,7 +4,7 @@ use mathlib.Core.Path.{_≡_, sym, _∙_}
 use native.Mathlib.Omega.{arith}
 use borrow.Author.Needs.{needs}
 use lib.ListN.{length, drop}
-use Rattle.column.specs.Number.{same}
+use Rattle.number.specs.Number.{same}
 use Rattle.player.proofs.Same.{other-length, same-more, same-differs, same-ends}
 use Rattle.player.proofs.samples.is_same.Statement.{statement}
 use Rattle.player.proofs.samples.is_same.Tie as tie

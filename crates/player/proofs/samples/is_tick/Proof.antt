@@ -26,17 +26,17 @@ returns c =
     let next-word = c .before .next-word in
     counted-all (a .line .now) (l .at) (next-word .result) (next-word .ensures) (l .count) (a .inputs) (l .inv) (c .if1 .taken)
 
-sub-number : tie.Need-sub-number Inv-loop μ-loop
-sub-number c = search needs
+sub-read-number : tie.Need-sub-read-number Inv-loop μ-loop
+sub-read-number c = search needs
 
-part-number-start : tie.Need-part-number-start Inv-loop μ-loop
-part-number-start c = search needs
+part-read-number-start : tie.Need-part-read-number-start Inv-loop μ-loop
+part-read-number-start c = search needs
 
-part-number-end : tie.Need-part-number-end Inv-loop μ-loop
-part-number-end c = search needs
+part-read-number-end : tie.Need-part-read-number-end Inv-loop μ-loop
+part-read-number-end c = search needs
 
-number-requires : tie.Need-number-requires Inv-loop μ-loop
-number-requires c κs = search needs
+read-number-requires : tie.Need-read-number-requires Inv-loop μ-loop
+read-number-requires c κs = search needs
 
 enum-told : tie.Need-enum-told Inv-loop μ-loop
 enum-told c = search needs
@@ -49,7 +49,7 @@ returns-2 c =
     let a = c .before .before .before .before .before .before .before .before .args in
     let l = c .before .before .before .before .before .before .loop in
     let next-word = c .before .before .before .before .before .next-word in
-    let number = c .before .before .number in
+    let number = c .before .before .read-number in
     counted-other (a .line .now) (l .at) (next-word .result) (next-word .ensures) (l .count) (l .inv) (omega arith) (number .result) (number .ensures) (a .inputs) (c .enum-told2 .given .1)
 
 add-count : tie.Need-add-count Inv-loop μ-loop
@@ -63,7 +63,7 @@ loop-again c =
     let a = c .before .before .before .before .before .before .before .before .args in
     let l = c .before .before .before .before .before .before .loop in
     let next-word = c .before .before .before .before .before .next-word in
-    let number = c .before .before .number in
+    let number = c .before .before .read-number in
     let enum-told = c .enum-told in
     counted-one (a .line .now) (l .at) (next-word .result) (next-word .ensures) (l .count) (l .inv) (omega arith) (number .result) (number .ensures) (enum-told .given .0 .0) (enum-told .given .1)
 
@@ -76,10 +76,10 @@ is-tick-spec =
     loop-holds
     next-word-requires
     returns
-    sub-number
-    part-number-start
-    part-number-end
-    number-requires
+    sub-read-number
+    part-read-number-start
+    part-read-number-end
+    read-number-requires
     enum-told
     enum-told-2
     returns-2

@@ -5,7 +5,7 @@ use native.Mathlib.Omega.{arith}
 use lib.ListN.{length, drop}
 use Rattle.word.proofs.Each.{words-of}
 use Rattle.player.specs.Ticks.{ticksText}
-use Rattle.column.proofs.Filling.{Filling, filling-start}
+use Rattle.number.proofs.Filling.{Filling, filling-start}
 use Rattle.player.proofs.TickLines.{tick-room, tick-next, ticks-put, ticks-fit, lines-room}
 use borrow.Author.Needs.{needs}
 use Rattle.player.proofs.ticks.put_lines.Statement.{statement}

@@ -4,7 +4,7 @@ use mathlib.Core.Path.{_∙_}
 use native.Mathlib.Omega.{arith}
 use lib.ListN.{drop}
 use Rattle.player.specs.Ticks.{tickLine}
-use Rattle.column.proofs.Filling.{Filling, filling-start}
+use Rattle.number.proofs.Filling.{Filling, filling-start}
 use Rattle.player.proofs.TickLines.{empty-room, empty-put, more-room, more-next, last-room, last-put}
 use borrow.Author.Needs.{needs}
 use Rattle.player.proofs.ticks.put_tick.Statement.{statement}

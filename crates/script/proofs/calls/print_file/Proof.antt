@@ -2,7 +2,7 @@
 use mathlib.Core.Path.{sym}
 use borrow.Author.Needs.{needs}
 use lib.Seq.{length-take-le}
-use Rattle.column.proofs.Stores.{begins-within}
+use Rattle.number.proofs.Stores.{begins-within}
 use Rattle.script.proofs.calls.print_file.Statement.{statement}
 use Rattle.script.proofs.calls.print_file.Tie as tie
 
