@@ -1,4 +1,4 @@
--- Runs of stores: side by side in either order, and from the front of a buffer.
+-- Runs of stores: side by side in either order, into a part that is lent, and from the front of a buffer.
 use Prim.Native.Nat.{ℕ, suc, _+_, _-_, _≤_, _<_}
 use mathlib.Core.Path.{_≡_, refl, sym, ap, _∙_}
 use mathlib.Core.List.{List, [], _∷_, _++_, append-assoc}

@@ -14,10 +14,11 @@ use Rattle.number.proofs.Room.{value-fits}
 pub column-law : ColumnLaw
 column-law line line′ from width z h room f = (only, stored)
   where
+    wide : length (column width z) ≡ width
+    wide = column-length width z (omega arith)
+
     parts : sets line from (column width z) ≡ take from line ++ (column width z ++ drop (from + width) line)
-    parts =
-        let l : length (column width z) ≡ width = column-length width z room in
-        sets-eq (column width z) line from (omega arith) ∙ append-assoc (take from line) (column width z) (drop (from + length (column width z)) line) ∙ rw l
+    parts = sets-eq (column width z) line from (omega (arith, wide)) ∙ append-assoc (take from line) (column width z) (drop (from + length (column width z)) line) ∙ rw wide
 
     only : ColumnWritten line from width z line′ → line′ ≡ sets line from (column width z)
     only w =
@@ -30,12 +31,12 @@ column-law line line′ from width z h room f = (only, stored)
         let p : line′ ≡ take from line ++ (column width z ++ drop (from + width) line) = e ∙ parts in
         let l : length (take from line) ≡ from = length-take-le from line (omega arith) in
         let d : drop from line′ ≡ column width z ++ drop (from + width) line = rw p (drop-at (take from line) (column width z ++ drop (from + width) line) from l) in
-        let t : take width (drop from line′) ≡ column width z = rw d (take-at (column width z) (drop (from + width) line) width (column-length width z room)) in
+        let t : take width (drop from line′) ≡ column width z = rw d (take-at (column width z) (drop (from + width) line) width wide) in
         record {
           text = t;
-          number = rw t (column-read width z room f);
+          number = rw t (column-read width z (omega arith) f);
           before = rw p (take-at (take from line) (column width z ++ drop (from + width) line) from l);
-          behind = sym (drop-drop width from line′) ∙ rw d (drop-at (column width z) (drop (from + width) line) width (column-length width z room));
+          behind = sym (drop-drop width from line′) ∙ rw d (drop-at (column width z) (drop (from + width) line) width wide);
         }
 
 -- of a word's number

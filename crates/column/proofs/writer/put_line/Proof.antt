@@ -9,7 +9,9 @@ cast-put-number : tie.Need-cast-put-number
 cast-put-number c = search needs
 
 put-number-requires : tie.Need-put-number-requires
-put-number-requires c κs = (node-room (c .before .before .before .args .node) (c .before .before .before .pre .1 .0), omega arith)
+put-number-requires c κs =
+    let s = c .before .before .before in
+    omega (arith, node-room (s .args .node) (s .pre .1 .0))
 
 mul-first : tie.Need-mul-first
 mul-first c = search needs

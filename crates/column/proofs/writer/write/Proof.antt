@@ -1,4 +1,5 @@
 -- `column::writer::write` meets its contract: 3, then 12, then the lines.
+use native.Mathlib.Omega.{arith}
 use borrow.Author.Needs.{needs}
 use Rattle.column.proofs.Writes.{write-empty, write-uneven, write-many, write-short, write-put}
 use Rattle.column.proofs.writer.write.Statement.{statement}
@@ -17,7 +18,7 @@ returns-2 c =
 returns-3 : tie.Need-returns-3
 returns-3 c =
     let a = c .before .before .before .before .before .args in
-    write-many (a .table .now) (a .file .now) (c .before .before .if1 .left) (c .before .if2 .left) (c .if3 .taken)
+    write-many (a .table .now) (a .file .now) (c .before .before .if1 .left) (c .before .if2 .left) (omega arith)
 
 mul-needed : tie.Need-mul-needed
 mul-needed c = search needs

@@ -31,9 +31,8 @@ loop-less c = search needs
 
 loop-again : tie.Need-loop-again Inv-loop μ-loop
 loop-again c =
-    let l = c .before .loop in
-    let k = length-set (l .line) (l .at - 1) space in
-    (omega arith, (omega arith, (omega arith, sym (spaces-next _ _ _ (c .loop-test .taken)) ∙ l .inv .1 .1 .1)))
+    let i = c .before .loop .inv in
+    (omega arith, (simp length-set (omega arith), (simp length-set (i .1 .1 .0), sym (spaces-next _ _ _ (c .loop-test .taken)) ∙ i .1 .1 .1)))
 
 same-length : tie.Need-same-length Inv-loop μ-loop
 same-length c = c .before .loop .inv .1 .1 .0

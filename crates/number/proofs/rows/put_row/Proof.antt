@@ -29,7 +29,8 @@ shared-slice-read-put-number c = search needs
 put-number-requires : tie.Need-put-number-requires Inv-loop μ-loop
 put-number-requires c κs =
     let l = c .before .before .before .loop in
-    (word-room (getD (c .before .before .before .before .before .before .args .numbers .now) (l .j) 0) (c .shared-slice-known2 .given (l .j) .fits), omega (arith, l .inv .long))
+    let r = word-room (getD (c .before .before .before .before .before .before .args .numbers .now) (l .j) 0) (c .shared-slice-known2 .given (l .j) .fits) in
+    omega (arith, r, l .inv .long)
 
 add-j : tie.Need-add-j Inv-loop μ-loop
 add-j c = search needs
