@@ -5,11 +5,11 @@ use mathlib.Core.Bool.{Bool, true, false, not}
 use mathlib.Core.List.{List, [], _∷_, _++_}
 use mathlib.Core.Option.{Option, none, some}
 use native.Mathlib.Decide.{decLt}
-use native.Mathlib.Numerals.{add-one}
+use native.Mathlib.Numerals.{add-one, add-two}
 use native.Mathlib.Omega.{arith}
 use borrow.Author.Tests.{not-false, leb-false, le-ltb, lt-ltb}
 use lib.Dec.{eqb, leb}
-use lib.ListN.{length, take, drop}
+use lib.ListN.{length, set, take, drop}
 use lib.Seq.{sets, length-sets}
 use Rattle.refusal.specs.declared.Refusal.{Refusal}
 use Rattle.refusal.specs.Answer.{Answer, count, refusalOf, refusedAt, refusedAll}
@@ -130,6 +130,10 @@ module _ (file table₀ : List ℕ) (nodes : ℕ) (table : List ℕ) (node : ℕ
             ∙ ap (λ (l : List ℕ). sets table (3 * node) l) (sym q)
             ∙ p .done);
       }
+
+-- the three numbers of a node
+pub three-stores : (l : List ℕ) (i a b c a′ b′ c′ : ℕ) → a ≡ a′ → b ≡ b′ → c ≡ c′ → set (set (set l i a) (i + 1) b) (i + 2) c ≡ sets l i (a′ ∷ (b′ ∷ (c′ ∷ [])))
+three-stores l i a b c a′ b′ c′ p q r = rw (p, q, r, add-one i, add-two i)
 
 pub numbers-length : (ls : List (List ℕ)) → length (tableOf ls) ≡ 3 * length ls
 numbers-length [] = refl

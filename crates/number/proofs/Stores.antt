@@ -3,7 +3,6 @@ use Prim.Native.Nat.{ℕ, suc, _+_, _-_, _≤_, _<_}
 use mathlib.Core.Path.{_≡_, refl, sym, ap, _∙_}
 use mathlib.Core.List.{List, [], _∷_, _++_, append-assoc}
 use native.Mathlib.Nat.{zero-add, add-zero}
-use native.Mathlib.Numerals.{add-one, add-two}
 use native.Mathlib.Omega.{arith}
 use lib.ListN.{length, set, take, drop, length-append}
 use lib.Seq.{sets, sets-eq, set-comm, drop-drop}
@@ -52,6 +51,3 @@ pub begins-within : {shown text : List ℕ} {n : ℕ} {text′ : List ℕ} → B
 begins-within {shown} {text} {n} p =
     let l : length (shown ++ drop n text) ≡ length shown + length (drop n text) = length-append shown (drop n text) in
     rw (p .put) (omega (arith, p .bytes))
-
-pub three-stores : (l : List ℕ) (i a b c a′ b′ c′ : ℕ) → a ≡ a′ → b ≡ b′ → c ≡ c′ → set (set (set l i a) (i + 1) b) (i + 2) c ≡ sets l i (a′ ∷ (b′ ∷ (c′ ∷ [])))
-three-stores l i a b c a′ b′ c′ p q r = rw (p, q, r, add-one i, add-two i)

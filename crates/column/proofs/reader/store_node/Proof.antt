@@ -2,7 +2,7 @@
 use native.Mathlib.Omega.{arith}
 use borrow.Author.Needs.{needs}
 use lib.ListN.{length-set}
-use Rattle.number.proofs.Stores.{three-stores}
+use Rattle.column.proofs.Storing.{three-stores}
 use Rattle.column.proofs.reader.store_node.Statement.{statement}
 use Rattle.column.proofs.reader.store_node.Tie as tie
 
