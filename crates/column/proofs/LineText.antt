@@ -18,15 +18,15 @@ use Rattle.word.proofs.Low.{value-small, low-value}
 use Rattle.word.proofs.Lists.{first-true, second-true}
 use Rattle.column.specs.Checks.{when}
 use Rattle.number.specs.Number.{numeral, column, numberIn, wordOf}
-use Rattle.number.specs.Row.{lineFeed, columns}
+use Rattle.number.specs.Row.{lineFeed, columns, row}
+use Rattle.number.specs.Laws.{ColumnHolds}
 use Rattle.column.specs.Line.{nodeLine, columnOf, entries, isNode, numberRefusal, lineRefusal}
-use Rattle.number.proofs.Texts.{column-length, column-read, read-column}
-use Rattle.number.proofs.Room.{value-fits, value-low}
-use Rattle.number.proofs.RowText.{drop-past, columns-part}
+use Rattle.number.proofs.Texts.{column-length, read-column}
+use Rattle.number.proofs.Room.{value-low}
+use Rattle.number.proofs.Written.{drop-past, text-holds, holds-behind}
+use Rattle.number.proofs.RowText.{columns-hold, columns-length}
 use Rattle.column.proofs.Storing.{Right, when-none}
-use Rattle.number.proofs.Room.{word-room}
 use Rattle.column.proofs.Writes.{node-room, node-line-length}
-use Rattle.number.proofs.RowText.{columns-length}
 
 -- the line of node i with three words
 node-column : (i : ℕ) → i < 512 → length (numeral (pos i)) ≤ 4
@@ -43,16 +43,21 @@ module _ (i : ℕ) (ws : List ℕ) (few : i < 512) (w : Words ws) (n : length ws
   first : length (column 4 (pos i)) ≡ 4
   first = column-length 4 (pos i) (node-column i few)
 
-  node-number : numberIn (columnOf 0 (nodeLine i (map value ws))) ≡ some (pos i)
+  -- its columns hold their numbers, and so are read as these
+  node-holds : ColumnHolds (nodeLine i (map value ws)) 0 4 (pos i)
   unfolding nodeLine
-  node-number =
-      rw (take-at (column 4 (pos i)) (columns (map value ws) ++ (lineFeed ∷ [])) 4 first) (column-read 4 (pos i) (node-column i few) (lt-ltb i (2 ^ 31) (omega arith)))
+  node-holds =
+      text-holds (nodeLine i (map value ws)) 0 4 (pos i) (node-column i few) (lt-ltb i (2 ^ 31) (omega arith)) (take-at (column 4 (pos i)) (row (map value ws)) 4 first)
+
+  entry-holds : (j : ℕ) → j < 3 → ColumnHolds (nodeLine i (map value ws)) (4 + 12 * j) 12 (value (getD ws j 0))
+  unfolding nodeLine
+  entry-holds j h = holds-behind (column 4 (pos i)) (row (map value ws)) 4 (12 * j) (4 + 12 * j) 12 (value (getD ws j 0)) first refl (columns-hold ws j (lineFeed ∷ []) w (omega arith))
+
+  node-number : numberIn (columnOf 0 (nodeLine i (map value ws))) ≡ some (pos i)
+  node-number = node-holds .number
 
   line-number : (j : ℕ) → j < 3 → numberIn (columnOf (suc j) (nodeLine i (map value ws))) ≡ some (value (getD ws j 0))
-  unfolding nodeLine
-  line-number j h =
-      rw (drop-past (column 4 (pos i)) (columns (map value ws) ++ (lineFeed ∷ [])) 4 (12 * j) (4 + 12 * j) first refl, columns-part ws j (lineFeed ∷ []) w (omega arith))
-      (column-read 12 (value (getD ws j 0)) (word-room (getD ws j 0) (word-at ws j w)) (value-fits (getD ws j 0) (word-at ws j w)))
+  line-number j h = entry-holds j h .number
 
   line-feed : getD (nodeLine i (map value ws)) 40 0 ≡ lineFeed
   unfolding nodeLine

@@ -56,7 +56,7 @@ node-line-put table i line line₁ row₁ h l c e =
     let n : 3 * i + 3 - 3 * i ≡ 3 = omega arith in
     let k : length (drop 4 line₁) ≤ 37 = rw (length-drop 4 line₁) (omega arith) in
     let end : drop 37 (drop 4 line₁) ≡ [] = drop-of-length-le (drop 4 line₁) k in
-    rw (end, append-nil row₁, e, n, ← value-small i (omega arith)) (ap (λ (t : List ℕ). t ++ row (map value (node table i))) (c .text))
+    rw (end, append-nil row₁, e, n, ← value-small i (omega arith)) (ap (λ (t : List ℕ). t ++ row (map value (node table i))) (c .holds .text))
 
 lines-last : (table : List ℕ) (i n : ℕ) → linesFrom table i (suc n) ≡ linesFrom table i n ++ lineOf table (i + n)
 lines-last table i zero = append-nil (lineOf table i) ∙ rw add-zero

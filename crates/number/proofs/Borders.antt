@@ -39,4 +39,4 @@ inner-column line w = column-law (97 ∷ 98 ∷ 99 ∷ 100 ∷ 101 ∷ []) line 
 
 inner-column-read : numberIn (32 ∷ 32 ∷ 55 ∷ []) ≡ some (pos 7)
 unfolding column numeral decimal digits
-inner-column-read = column-law (97 ∷ 98 ∷ 99 ∷ 100 ∷ 101 ∷ []) (97 ∷ 32 ∷ 32 ∷ 55 ∷ 101 ∷ []) 1 3 (pos 7) (omega arith) (omega arith) refl .1 refl .number
+inner-column-read = column-law (97 ∷ 98 ∷ 99 ∷ 100 ∷ 101 ∷ []) (97 ∷ 32 ∷ 32 ∷ 55 ∷ 101 ∷ []) 1 3 (pos 7) (omega arith) (omega arith) refl .1 refl .holds .number

@@ -1,18 +1,20 @@
 -- Numbers in columns of 12: how long they are, each of them, and a line of them as it is written.
-use Prim.Native.Nat.{ℕ, zero, suc, _+_, _*_, _≤_, _<_}
+use Prim.Native.Nat.{ℕ, zero, suc, _+_, _*_, _^_, _≤_, _<_}
 use mathlib.Core.Path.{_≡_, refl, sym, ap, ap₂, _∙_}
 use mathlib.Core.List.{List, [], _∷_, _++_, map, append-assoc, append-nil}
 use native.Mathlib.Numerals.{add-one}
 use native.Mathlib.Omega.{arith}
 use lib.ListN.{length, getD, set, take, drop, length-append, drop-of-length-le}
-use lib.Seq.{take-at, take-add, take-suc, take-all, drop-append-add, set-split}
+use lib.Seq.{take-at, take-add, take-suc, take-all, set-split}
 use Rattle.word.specs.Word.{value}
 use Rattle.word.specs.Tick.{Words}
+use Rattle.word.proofs.Each.{word-at}
 use Rattle.number.specs.Number.{column}
 use Rattle.number.specs.Row.{lineFeed, columns, row}
-use Rattle.number.specs.Laws.{ColumnWritten}
+use Rattle.number.specs.Laws.{ColumnHolds, ColumnWritten}
 use Rattle.number.proofs.Texts.{column-length}
-use Rattle.number.proofs.Room.{word-room}
+use Rattle.number.proofs.Room.{word-room, value-fits}
+use Rattle.number.proofs.Written.{drop-past, text-holds}
 
 pub columns-length : (ws : List ℕ) → Words ws → length (columns (map value ws)) ≡ 12 * length ws
 columns-length [] w = refl
@@ -23,11 +25,7 @@ columns-length (x ∷ ws) (p, w) =
 pub row-length : (ws : List ℕ) → Words ws → length (row (map value ws)) ≡ 12 * length ws + 1
 row-length ws w = length-append (columns (map value ws)) (lineFeed ∷ []) ∙ ap (λ (n : ℕ). n + 1) (columns-length ws w)
 
-pub drop-past : (xs ys : List ℕ) (n m k : ℕ) → length xs ≡ n → k ≡ n + m → drop k (xs ++ ys) ≡ drop m ys
-drop-past xs ys n m k e q = rw (q, ← e) (drop-append-add xs ys m)
-
--- one of the columns side by side
-pub columns-part : (ws : List ℕ) (j : ℕ) (r : List ℕ) → Words ws → j < length ws → take 12 (drop (12 * j) (columns (map value ws) ++ r)) ≡ column 12 (value (getD ws j 0))
+columns-part : (ws : List ℕ) (j : ℕ) (r : List ℕ) → Words ws → j < length ws → take 12 (drop (12 * j) (columns (map value ws) ++ r)) ≡ column 12 (value (getD ws j 0))
 columns-part [] j r w h = absurd (omega arith)
 columns-part (x ∷ ws) zero r (p, w) h =
     rw (append-assoc (column 12 (value x)) (columns (map value ws)) r)
@@ -36,6 +34,12 @@ columns-part (x ∷ ws) (suc j) r (p, w) h =
     rw (append-assoc (column 12 (value x)) (columns (map value ws)) r)
     (ap (take 12) (drop-past (column 12 (value x)) (columns (map value ws) ++ r) 12 (12 * j) (12 * suc j) (column-length 12 (value x) (word-room x p)) (omega arith))
     ∙ columns-part ws j r w (omega arith))
+
+-- each of them holds its number
+pub columns-hold : (ws : List ℕ) (j : ℕ) (r : List ℕ) → Words ws → j < length ws → ColumnHolds (columns (map value ws) ++ r) (12 * j) 12 (value (getD ws j 0))
+columns-hold ws j r w h =
+    let b : getD ws j 0 < 2 ^ 32 = word-at ws j w in
+    text-holds (columns (map value ws) ++ r) (12 * j) 12 (value (getD ws j 0)) (word-room (getD ws j 0) b) (value-fits (getD ws j 0) b) (columns-part ws j r w h)
 
 columns-last : (ws : List ℕ) (w : ℕ) → columns (map value (ws ++ (w ∷ []))) ≡ columns (map value ws) ++ column 12 (value w)
 columns-last [] w = append-nil (column 12 (value w))
@@ -61,7 +65,7 @@ filled-next numbers line₀ line line′ j h l w p =
       done =
           rw (m, add-one j)
           (take-add (12 * j) 12 line′
-          ∙ ap₂ {C = List ℕ} (λ x y. x ++ y) (w .before ∙ p .done) (w .text)
+          ∙ ap₂ {C = List ℕ} (λ x y. x ++ y) (w .before ∙ p .done) (w .holds .text)
           ∙ sym (columns-last (take j numbers) (getD numbers j 0))
           ∙ ap (λ (ns : List ℕ). columns (map value ns)) (sym (take-suc numbers j 0 h)));
     }

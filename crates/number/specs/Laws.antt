@@ -14,11 +14,14 @@ use Rattle.number.specs.Number.{numeral, column, fits, numberIn}
 abbrev pub NumberLaw : Type 0
 NumberLaw = (text : List ℕ) (z : ℤ) → (numberIn text ≡ some z) ↔ ((column (length text) z ≡ text) × (fits z ≡ true))
 
--- z is written in the column of this width that begins at `from`: the column holds its text, which is spaces and the numeral; it is read as
--- that number; and every other byte of the line, before the column or behind it, is what it was
+-- the column of this width that begins at `from` holds z: its text, which is spaces and the numeral; and it is read as that number
+pub record ColumnHolds (line : List ℕ) (from width : ℕ) (z : ℤ) : Type 0 where
+  pub text : take width (drop from line) ≡ column width z
+  pub number : numberIn (take width (drop from line)) ≡ some z
+
+-- z is written there: the column holds it, and every other byte of the line, before the column or behind it, is what it was
 pub record ColumnWritten (line : List ℕ) (from width : ℕ) (z : ℤ) (line′ : List ℕ) : Type 0 where
-  pub text : take width (drop from line′) ≡ column width z
-  pub number : numberIn (take width (drop from line′)) ≡ some z
+  pub holds : ColumnHolds line′ from width z
   pub before : take from line′ ≡ take from line
   pub behind : drop (from + width) line′ ≡ drop (from + width) line
 
