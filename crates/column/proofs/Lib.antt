@@ -6,6 +6,7 @@ pub mod Writes
 pub mod LineText
 pub mod FileText
 pub mod Refusing
+pub mod Holds
 pub mod RoundTrip
 pub mod Prefix
 pub mod Samples

@@ -44,12 +44,12 @@ module _ (i : ℕ) (ws : List ℕ) (few : i < 512) (w : Words ws) (n : length ws
   first = column-length 4 (pos i) (node-column i few)
 
   -- its columns hold their numbers, and so are read as these
-  node-holds : ColumnHolds (nodeLine i (map value ws)) 0 4 (pos i)
+  pub node-holds : ColumnHolds (nodeLine i (map value ws)) 0 4 (pos i)
   unfolding nodeLine
   node-holds =
       text-holds (nodeLine i (map value ws)) 0 4 (pos i) (node-column i few) (lt-ltb i (2 ^ 31) (omega arith)) (take-at (column 4 (pos i)) (row (map value ws)) 4 first)
 
-  entry-holds : (j : ℕ) → j < 3 → ColumnHolds (nodeLine i (map value ws)) (4 + 12 * j) 12 (value (getD ws j 0))
+  pub entry-holds : (j : ℕ) → j < 3 → ColumnHolds (nodeLine i (map value ws)) (4 + 12 * j) 12 (value (getD ws j 0))
   unfolding nodeLine
   entry-holds j h = holds-behind (column 4 (pos i)) (row (map value ws)) 4 (12 * j) (4 + 12 * j) 12 (value (getD ws j 0)) first refl (columns-hold ws j (lineFeed ∷ []) w (omega arith))
 

@@ -1,13 +1,16 @@
--- What is proved of a file or a table that goes out and comes back, and of a file's beginning.
-use Prim.Native.Nat.{ℕ, _*_, _/_, _≤_}
+-- What is proved of a file or a table that goes out and comes back, of a written file's columns, and of a file's beginning.
+use Prim.Native.Nat.{ℕ, _+_, _*_, _/_, _≤_, _<_}
 use mathlib.Core.Path.{_≡_}
 use mathlib.Core.Logic.{_↔_}
 use mathlib.Core.List.{List, _++_}
-use lib.ListN.{length, take, drop}
+use lib.IntN.{pos}
+use lib.ListN.{length, getD, take, drop}
 use Rattle.refusal.specs.Answer.{count}
 use Rattle.refusal.specs.Outcome.{outcome}
+use Rattle.word.specs.Word.{value}
 use Rattle.word.specs.Tick.{Words}
-use Rattle.column.specs.Line.{enoughBytes}
+use Rattle.number.specs.Laws.{ColumnHolds}
+use Rattle.column.specs.Line.{lineBytes, enoughBytes}
 use Rattle.column.specs.File.{fileRefusal, reading, writing}
 
 -- a file that is read and written again has the same bytes
@@ -19,6 +22,12 @@ FileAgain = (file table out : List ℕ) (nodes : ℕ) → reading file table .an
 abbrev pub TableAgain : Type 0
 TableAgain = (table file buffer : List ℕ) (bytes : ℕ) → Words table → writing table file .answer ≡ count bytes → length table ≤ length buffer
     → reading (take bytes (writing table file .buffer)) buffer ≡ outcome (count (length table / 3)) (table ++ drop (length table) buffer)
+
+-- every column of a file that is written holds its number, as the law of a column has it: each line the node's in 4, then its three in 12
+abbrev pub FileHolds : Type 0
+FileHolds = (table file : List ℕ) (bytes i : ℕ) → Words table → writing table file .answer ≡ count bytes → 3 * i < length table
+    → let line = lineBytes * i in
+    ColumnHolds (writing table file .buffer) line 4 (pos i) × ((j : ℕ) → j < 3 → ColumnHolds (writing table file .buffer) (line + (4 + 12 * j)) 12 (value (getD table (3 * i + j) 0)))
 
 -- the first k bytes decide how the lines of any file are refused, exactly if k is enough
 abbrev pub PrefixDecides : Type 0

@@ -5,8 +5,8 @@ use mathlib.Core.Bool.{true}
 use mathlib.Core.List.{List, _++_, append-assoc}
 use native.Mathlib.Omega.{arith}
 use lib.IntN.{ℤ}
-use lib.ListN.{length, take, drop, take-append-drop}
-use lib.Seq.{sets, sets-eq, take-at, drop-at, drop-drop, drop-append-add, length-take-le}
+use lib.ListN.{length, take, drop, take-append-drop, length-drop}
+use lib.Seq.{sets, sets-eq, take-at, drop-at, drop-drop, drop-append-add, take-append-le, drop-append-le, length-take-le}
 use Rattle.word.specs.Word.{value}
 use Rattle.number.specs.Number.{numeral, column, fits}
 use Rattle.number.specs.Laws.{ColumnHolds, ColumnWritten, ColumnLaw}
@@ -25,6 +25,13 @@ pub holds-behind : (front line : List ℕ) (n from k width : ℕ) (z : ℤ) → 
 holds-behind front line n from k width z e q c =
     let d : drop k (front ++ line) ≡ drop from line = drop-past front line n from k e q in
     record { text = rw d (c .text); number = rw d (c .number) }
+
+-- and before it
+pub holds-before : (line rest : List ℕ) (from width : ℕ) (z : ℤ) → from + width ≤ length line → ColumnHolds line from width z → ColumnHolds (line ++ rest) from width z
+holds-before line rest from width z h c =
+    let d : drop from (line ++ rest) ≡ drop from line ++ rest = drop-append-le from line rest (omega arith) in
+    let t : take width (drop from (line ++ rest)) ≡ take width (drop from line) = rw d (take-append-le width (drop from line) rest (rw (length-drop from line) (omega arith))) in
+    record { text = t ∙ c .text; number = rw t (c .number) }
 
 pub column-law : ColumnLaw
 column-law line line′ from width z h room f = (only, stored)

@@ -1,4 +1,4 @@
--- What the helper functions promise.
+-- What the function that reads a column promises in the terms of its enum, and its helpers.
 use Prim.Native.Nat.{ℕ, _+_, _≤_, _<_}
 use mathlib.Core.Path.{_≡_}
 use mathlib.Core.List.{List}
