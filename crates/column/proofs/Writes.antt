@@ -1,15 +1,14 @@
 -- The lines of a table as they are written.
 use Prim.Native.Nat.{ℕ, zero, suc, _+_, _-_, _*_, _/_, _%_, _≤_, _<_}
-use mathlib.Core.Path.{_≡_, refl, sym, ap, _∙_}
-use mathlib.Core.List.{List, [], _++_, map, append-assoc, append-nil}
+use mathlib.Core.Path.{_≡_, refl, sym, ap, subst, _∙_}
+use mathlib.Core.List.{List, [], _++_, map, append-nil}
 use mathlib.Core.Option.{none}
-use native.Mathlib.Nat.{zero-add, add-zero}
 use native.Mathlib.Numerals.{add-one}
 use native.Mathlib.Omega.{arith}
 use borrow.Author.Tests.{lt-ltb, le-ltb, eq-eqb, ne-eqb}
 use lib.IntN.{pos}
 use lib.ListN.{length, take, drop, length-append, length-drop, drop-of-length-le}
-use lib.Seq.{take-at, drop-at, drop-drop, length-take-le}
+use lib.Seq.{length-take-le}
 use Rattle.refusal.specs.Answer.{count, refusedAt, refusedAll}
 use Rattle.refusal.specs.Outcome.{outcome}
 use Rattle.word.specs.Word.{value}
@@ -19,10 +18,13 @@ use Rattle.word.proofs.Low.{value-small}
 use Rattle.number.specs.Number.{numeral, column}
 use Rattle.number.specs.Row.{columns, row}
 use Rattle.number.specs.Laws.{ColumnWritten}
+use Rattle.number.specs.Put.{Put}
 use Rattle.number.proofs.Decimal.{decimal-length}
 use Rattle.number.proofs.Texts.{column-length}
 use Rattle.number.proofs.Put.{numeral-small}
 use Rattle.number.proofs.RowText.{columns-length}
+use Rattle.number.proofs.Stores.{part-put, begins-of}
+use Rattle.number.proofs.Filling.{Filling, filling-start, filling-next, filling-end}
 use Rattle.column.specs.Line.{nodeLine}
 use Rattle.column.specs.File.{node, lineOf, linesFrom, countRefusal, writing}
 
@@ -58,48 +60,43 @@ node-line-put table i line line₁ row₁ h l c e =
     let end : drop 37 (drop 4 line₁) ≡ [] = drop-of-length-le (drop 4 line₁) k in
     rw (end, append-nil row₁, e, n, ← value-small i (omega arith)) (ap (λ (t : List ℕ). t ++ row (map value (node table i))) (c .holds .text))
 
-lines-last : (table : List ℕ) (i n : ℕ) → linesFrom table i (suc n) ≡ linesFrom table i n ++ lineOf table (i + n)
-lines-last table i zero = append-nil (lineOf table i) ∙ rw add-zero
-lines-last table i (suc n) =
-    let e : suc i + n ≡ i + suc n = omega arith in
-    ap (λ (t : List ℕ). lineOf table i ++ t) (lines-last table (suc i) n ∙ rw e) ∙ sym (append-assoc (lineOf table i) (linesFrom table (suc i) n) (lineOf table (i + suc n)))
-
 pub lines-length : (table : List ℕ) (i n : ℕ) → Words table → i + n ≤ 512 → 3 * (i + n) ≤ length table → length (linesFrom table i n) ≡ 41 * n
 lines-length table i zero w h l = refl
 lines-length table i (suc n) w h l =
     length-append (lineOf table i) (linesFrom table (suc i) n)
     ∙ rw (line-length table i w (omega arith) (omega arith), lines-length table (suc i) n w (omega arith) (omega arith)) (omega arith)
 
--- the lines before `node` are written
+-- the lines from `node` on are left to be written
 pub record Writing (table : List ℕ) (nodes : ℕ) (file₀ file : List ℕ) (node : ℕ) : Type 0 where
   pub few : node ≤ nodes
-  pub long : length file ≡ length file₀
-  pub done : file ≡ linesFrom table 0 node ++ drop (41 * node) file₀
+  pub fill : Filling (linesFrom table 0 nodes) file₀ 0 (linesFrom table node (nodes - node)) file (41 * node)
 
 pub writing-starts : (table : List ℕ) (nodes : ℕ) (file : List ℕ) → Writing table nodes file file 0
-writing-starts table nodes file = record { few = omega arith; long = refl; done = refl }
+writing-starts table nodes file =
+    let z : nodes - 0 ≡ nodes = omega arith in
+    record { few = omega arith; fill = subst (λ (n : ℕ). Filling (linesFrom table 0 nodes) file 0 (linesFrom table 0 n) file 0) (sym z) (filling-start (linesFrom table 0 nodes) file 0) }
 
--- the part of the file that is the next line holds it, and the rest is as it was
+-- the next line, in the part of the file that is lent for it
 pub writing-next : (table : List ℕ) (nodes : ℕ) (file₀ file : List ℕ) (i : ℕ) (line : List ℕ) → Words table → nodes ≤ 512 → 3 * nodes ≤ length table → 41 * nodes ≤ length file₀ → i < nodes → line ≡ lineOf table i →
     Writing table nodes file₀ file i → Writing table nodes file₀ (take (41 * i) file ++ (line ++ drop (41 * i + 41 - 41 * i) (drop (41 * i) file))) (i + 1)
 writing-next table nodes file₀ file i line w m t r h e p =
-    let k : 41 * i + 41 - 41 * i ≡ 41 = omega arith in
+    let k : nodes - i ≡ suc (nodes - (i + 1)) = omega arith in
     let a : 41 * i + 41 ≡ 41 * (i + 1) = omega arith in
-    let l : length (linesFrom table 0 i) ≡ 41 * i = lines-length table 0 i w (omega arith) (omega arith) in
-    let l′ : length (linesFrom table 0 (i + 1)) ≡ 41 * (i + 1) = lines-length table 0 (i + 1) w (omega arith) (omega arith) in
-    let before : take (41 * i) file ≡ linesFrom table 0 i = rw (p .done) (take-at (linesFrom table 0 i) (drop (41 * i) file₀) (41 * i) l) in
-    let behind : drop (41 * i) file ≡ drop (41 * i) file₀ = rw (p .done) (drop-at (linesFrom table 0 i) (drop (41 * i) file₀) (41 * i) l) in
-    let last : linesFrom table 0 (i + 1) ≡ linesFrom table 0 i ++ lineOf table i = rw (add-one i) (lines-last table 0 i ∙ rw (zero-add i)) in
-    let done : take (41 * i) file ++ (line ++ drop (41 * i + 41 - 41 * i) (drop (41 * i) file)) ≡ linesFrom table 0 (i + 1) ++ drop (41 * (i + 1)) file₀ =
-    rw (e, k, before, behind, drop-drop 41 (41 * i) file₀, a, last) (sym (append-assoc (linesFrom table 0 i) (lineOf table i) (drop (41 * (i + 1)) file₀))) in
-    record {
-      few = omega arith;
-      long = ap length done ∙ length-append (linesFrom table 0 (i + 1)) (drop (41 * (i + 1)) file₀) ∙ omega (arith, length-drop (41 * (i + 1)) file₀);
-      done = done;
-    }
+    let l : length (lineOf table i) ≡ 41 = line-length table i w (omega arith) (omega arith) in
+    let left : List ℕ = linesFrom table (i + 1) (nodes - (i + 1)) in
+    let split : linesFrom table i (nodes - i) ≡ lineOf table i ++ left = rw (k, add-one i) in
+    let file′ : List ℕ = take (41 * i) file ++ (line ++ drop (41 * i + 41 - 41 * i) (drop (41 * i) file)) in
+    let q : Put (lineOf table i) file (41 * i) (41 * i + 41) file′ = part-put (lineOf table i) file line (41 * i) (41 * i + 41) (omega arith) (omega (arith, p .fill .long)) e in
+    record { few = omega arith; fill = subst (λ (n : ℕ). Filling (linesFrom table 0 nodes) file₀ 0 left file′ n) a (filling-next (p .fill) (lineOf table i) left split q) }
 
-pub writing-ends : (table : List ℕ) (nodes : ℕ) (file₀ file : List ℕ) (node : ℕ) → nodes ≤ node → Writing table nodes file₀ file node → file ≡ linesFrom table 0 nodes ++ drop (41 * nodes) file₀
-writing-ends table nodes file₀ file node h p = let e : nodes ≡ node = omega (arith, p .few) in rw e (p .done)
+pub writing-ends : (table : List ℕ) (nodes : ℕ) (file₀ file : List ℕ) (node : ℕ) → Words table → nodes ≤ 512 → 3 * nodes ≤ length table → nodes ≤ node → 41 * nodes ≤ length file₀ →
+    Writing table nodes file₀ file node → file ≡ linesFrom table 0 nodes ++ drop (41 * nodes) file₀
+writing-ends table nodes file₀ file node w m t h r p =
+    let n : node ≡ nodes = omega (arith, p .few) in
+    let z : nodes - nodes ≡ 0 = omega arith in
+    let l : length (linesFrom table 0 nodes) ≡ 41 * nodes = lines-length table 0 nodes w (omega arith) (omega arith) in
+    let f : Filling (linesFrom table 0 nodes) file₀ 0 [] file (41 * nodes) = rw (n, z) at (p .fill) in
+    begins-of (linesFrom table 0 nodes) file₀ (41 * nodes) file (filling-end (omega arith) f) .put
 
 -- the whole call
 module _ (table file : List ℕ) where

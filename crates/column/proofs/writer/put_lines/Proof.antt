@@ -29,10 +29,10 @@ part-put-line-start : tie.Need-part-put-line-start Inv-loop μ-loop
 part-put-line-start c = search needs
 
 part-put-line-end : tie.Need-part-put-line-end Inv-loop μ-loop
-part-put-line-end c = omega (arith, c .before .loop .inv .long)
+part-put-line-end c = omega (arith, c .before .loop .inv .fill .long)
 
 put-line-requires : tie.Need-put-line-requires Inv-loop μ-loop
-put-line-requires c κs = omega (arith, c .before .before .loop .inv .long)
+put-line-requires c κs = omega (arith, c .before .before .loop .inv .fill .long)
 
 add-node : tie.Need-add-node Inv-loop μ-loop
 add-node c = search needs
@@ -48,10 +48,13 @@ loop-again c =
     (c .before .before .before .before .loop-test .taken) (c .before .before .put-line .ensures) (l .inv)
 
 same-length : tie.Need-same-length Inv-loop μ-loop
-same-length c = c .before .loop .inv .long
+same-length c = c .before .loop .inv .fill .long
 
 returns : tie.Need-returns Inv-loop μ-loop
-returns c = writing-ends _ _ _ (c .before .loop .file) (c .before .loop .node) (c .loop-test .left) (c .before .loop .inv)
+returns c =
+    let s = c .before .before .before .before in
+    let l = c .before .loop in
+    writing-ends _ (s .args .nodes) _ (l .file) (l .node) (words-of (s .args .table .now) (λ k. c .before .before .before .shared-slice-known .given k .fits)) (s .pre .1 .0) (s .pre .0) (c .loop-test .left) (s .pre .1 .1) (l .inv)
 
 pub put-lines-spec : {M : Type 1} → statement M
 put-lines-spec =
