@@ -34,7 +34,9 @@ samples =
     ∷ sample [] (refusedAt 3 0)
     ∷ sample (5 ∷ []) (refusedAt 3 0)
     ∷ sample (cable ++ 13 ∷ 0 ∷ 0 ∷ []) (refusedAt 4 1)
-    ∷ sample (3 ∷ 10 ∷ 0 ∷ []) (refusedAt 5 0)
+    -- a selector, which is the last operation
+    ∷ sample (3 ∷ 10 ∷ 0 ∷ []) (counts (3 ∷ 1 ∷ 1 ∷ 0 ∷ []))
+    ∷ sample (3 ∷ 11 ∷ 0 ∷ []) (refusedAt 5 0)
     ∷ sample (cable ++ 8 ∷ 0 ∷ 0 ∷ []) (refusedAt 6 1)
     -- two loose nodes, and the last, which is none
     ∷ sample (cable ++ cable ++ cable) (refusedAt 9 0)
@@ -50,4 +52,4 @@ all-right (s ∷ ss) = (checked (s .table) ≡ s .answer) × all-right ss
 
 samples-right : all-right samples
 unfolding samples all-right checked lowest refusalAt childrenFree taken ruleFits tree treeAt ins outs need size sumTo operands
-samples-right = (refl, (refl, (refl, (refl, (refl, (refl, (refl, (refl, (refl, (refl, (refl, (refl, tt))))))))))))
+samples-right = (refl, (refl, (refl, (refl, (refl, (refl, (refl, (refl, (refl, (refl, (refl, (refl, (refl, tt)))))))))))))

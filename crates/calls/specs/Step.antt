@@ -25,7 +25,7 @@ unfoldable pub step : (ℕ → ℕ) → Tree → Tick → List ℕ → Stepped
 unfolding ins outs operate
 step base (leaf i (number v)) f cs = stepped (v ∷ []) cs
 step base (leaf i (control s)) f cs = stepped (getD (f .controls) s 0 ∷ []) cs
-step base (leaf i (operation o)) f cs = stepped (operate o (getD (f .inputs) 0 0) (getD (f .inputs) 1 0) ∷ []) cs
+step base (leaf i (operation o)) f cs = stepped (operate o (getD (f .inputs) 0 0) (getD (f .inputs) 1 0) (getD (f .inputs) 2 0) ∷ []) cs
 step base (leaf i (delay d)) f cs =
     stepped (delayed (base i) d (getD (f .inputs) 0 0) (getD (f .inputs) 1 0) cs ∷ []) (moved (base i) d (getD (f .inputs) 0 0) cs)
 step base (leaf i cable) f cs = stepped (getD (f .inputs) 0 0 ∷ []) cs

@@ -77,7 +77,7 @@ primitive-words : (p : Primitive) → Known p → (f : Tick) (past : History) �
 unfolding primitive
 primitive-words (number v) k f past w = (k, tt)
 primitive-words (control s) k f past w = (word-at (f .controls) s (w .0 .controls), tt)
-primitive-words (operation o) k f past w = (operate-word o (getD (f .inputs) 0 0) (getD (f .inputs) 1 0), tt)
+primitive-words (operation o) k f past w = (operate-word o (getD (f .inputs) 0 0) _ _ (word-at (f .inputs) 1 (w .0 .inputs)) (word-at (f .inputs) 2 (w .0 .inputs)), tt)
 primitive-words (delay d) k f past w = (ago-word (f ∷ past) (clamp (getD (f .inputs) 1 0) d) w, tt)
 primitive-words cable k f past w = (word-at (f .inputs) 0 (w .0 .inputs), tt)
 primitive-words cut k f past w = tt

@@ -90,6 +90,14 @@ benchSamples =
     ∷ sample (3 ∷ 2 ∷ 0 ∷ 5 ∷ 0 ∷ 0 ∷ 8 ∷ 0 ∷ 1 ∷ 3 ∷ 1 ∷ 0 ∷ 5 ∷ 0 ∷ 0 ∷ 11 ∷ 3 ∷ 4 ∷ 12 ∷ 5 ∷ 0 ∷ 7 ∷ 2 ∷ 6 ∷ [])
     (three (5 ∷ 4 ∷ 4 ∷ 2 ∷ 0 ∷ []) (3 ∷ 4 ∷ 7 ∷ 2 ∷ minus 2147483648 ∷ []) (5 ∷ 6 ∷ 7 ∷ 8 ∷ 9 ∷ []))
     (one (5 ∷ 5 ∷ 12 ∷ 12 ∷ 21 ∷ []))
+    -- a selector (E4), its first 0 1 -1 -2147483648; the second times 1 less the first would wrap
+    ∷ sample (3 ∷ 10 ∷ 0 ∷ [])
+    (three (0 ∷ 1 ∷ minus 1 ∷ minus 2147483648 ∷ []) (2147483647 ∷ 2 ∷ 2147483647 ∷ minus 2147483648 ∷ []) (minus 2147483648 ∷ 3 ∷ minus 2147483647 ∷ 2147483646 ∷ []))
+    (one (2147483647 ∷ 3 ∷ minus 2147483647 ∷ 2147483646 ∷ []))
+    -- an ondemand selector, its clock its own output fed back and 1 more: 1 6 9 0 0
+    ∷ sample (3 ∷ 10 ∷ 0 ∷ 12 ∷ 0 ∷ 0 ∷ 5 ∷ 0 ∷ 0 ∷ 1 ∷ 1 ∷ 0 ∷ 8 ∷ 2 ∷ 3 ∷ 3 ∷ 1 ∷ 0 ∷ 7 ∷ 4 ∷ 5 ∷ 11 ∷ 1 ∷ 6 ∷ [])
+    (three (0 ∷ 1 ∷ minus 1 ∷ 0 ∷ 1 ∷ []) (5 ∷ 6 ∷ 4 ∷ 3 ∷ 2 ∷ []) (7 ∷ 8 ∷ minus 1 ∷ 9 ∷ 10 ∷ []))
+    (one (5 ∷ 8 ∷ minus 1 ∷ minus 1 ∷ minus 1 ∷ []))
     ∷ []
 
 -- "The P samples are proved from the meaning through one shared table and theorem."

@@ -47,7 +47,7 @@ unfoldable pub primitive : Primitive → Tick → History → Beam
 unfolding operate
 primitive (number v) f past = v ∷ []
 primitive (control s) f past = getD (f .controls) s 0 ∷ []
-primitive (operation o) f past = operate o (getD (f .inputs) 0 0) (getD (f .inputs) 1 0) ∷ []
+primitive (operation o) f past = operate o (getD (f .inputs) 0 0) (getD (f .inputs) 1 0) (getD (f .inputs) 2 0) ∷ []
 primitive (delay d) f past = ago (f ∷ past) (clamp (getD (f .inputs) 1 0) d) ∷ []
 primitive cable f past = getD (f .inputs) 0 0 ∷ []
 primitive cut f past = []

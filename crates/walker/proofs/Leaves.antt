@@ -63,10 +63,10 @@ module _ {table shape : List ℕ} {i : ℕ} (ready : Ready table shape) (inside 
     unfolding step outs
     control-ticked e ek ev h = ticked-by 2 e (omega arith) (rw (← ek, ← ev) (ap (λ (l : Beam). stepped l cs) h))
 
-    pub operation-ticked : {o x y v n : ℕ} → kindAt table i ≡ 3 → o ≡ firstAt table i → n ≡ ins (tree table i) → x ≡ getD (take n xs) 0 0 → y ≡ getD (take n xs) 1 0
-        → v ≡ operate o x y → take 1 ys ≡ v ∷ [] → Ticked table controls i xs cs ys cs
+    pub operation-ticked : {o x y z v n : ℕ} → kindAt table i ≡ 3 → o ≡ firstAt table i → n ≡ ins (tree table i) → x ≡ getD (take n xs) 0 0 → y ≡ getD (take n xs) 1 0 → z ≡ getD (take n xs) 2 0
+        → v ≡ operate o x y z → take 1 ys ≡ v ∷ [] → Ticked table controls i xs cs ys cs
     unfolding step outs
-    operation-ticked e eo en ex ey ev h = ticked-by 3 e (omega arith) (rw (← eo, ← en, ← ex, ← ey, ← ev) (ap (λ (l : Beam). stepped l cs) h))
+    operation-ticked e eo en ex ey ez ev h = ticked-by 3 e (omega arith) (rw (← eo, ← en, ← ex, ← ey, ← ez, ← ev) (ap (λ (l : Beam). stepped l cs) h))
 
     pub delay-ticked : {a d x y v n : ℕ} {cs′ : List ℕ} → kindAt table i ≡ 4 → a ≡ base table i → d ≡ firstAt table i → n ≡ ins (tree table i) → x ≡ getD (take n xs) 0 0 → y ≡ getD (take n xs) 1 0
         → v ≡ delayed a d x y cs → cs′ ≡ moved a d x cs → take 1 ys ≡ v ∷ [] → Ticked table controls i xs cs ys cs′

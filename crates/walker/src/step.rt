@@ -60,7 +60,12 @@ fn leaf_step(
         return one(number_at(controls, index(value)));
     }
     if kind == 3 {
-        return one(operate(value, entry(&ins, n, 0), entry(&ins, n, 1)));
+        return one(operate(
+            value,
+            entry(&ins, n, 0),
+            entry(&ins, n, 1),
+            entry(&ins, n, 2),
+        ));
     }
     if kind == 4 {
         let delayed = delay_at(

@@ -5,4 +5,5 @@ pub mod Forms
 pub mod Exceptions
 pub mod Clocks
 pub mod OperandCounts
+mod Selector
 mod Borders

@@ -2,7 +2,7 @@
 use Prim.Native.Nat.{ℕ}
 use mathlib.Core.Bool.{Bool, not}
 use mathlib.Core.List.{List, [], _∷_}
-use lib.Dec.{eqb}
+use lib.Dec.{eqb, ltb}
 use lib.IntN.{pos, negℤ, natAbs, _+ℤ_, _-ℤ_, _*ℤ_}
 use lib.ListN.{getD}
 use lib.Signed.{quotZ, remZ, ltZ}
@@ -40,9 +40,13 @@ absolute a = low (pos (natAbs (value a)))
 unfoldable pub negate : ℕ → ℕ
 negate a = low (negℤ (value a))
 
--- the operation `op` of the table; one with one input does not read the second
-unfoldable pub operate : ℕ → ℕ → ℕ → ℕ
-operate op a b =
+-- E4: "it gives the second when the first is 0, otherwise the third"
+unfoldable pub select : ℕ → ℕ → ℕ → ℕ
+select a b c = pick (eqb a 0) b c
+
+-- the operation `op` of the table; one with fewer inputs does not read the others
+unfoldable pub operate : ℕ → ℕ → ℕ → ℕ → ℕ
+operate op a b c =
     pick (eqb op 1) (add a b)
     (pick (eqb op 2) (subtract a b)
     (pick (eqb op 3) (multiply a b)
@@ -51,15 +55,20 @@ operate op a b =
     (pick (eqb op 6) (less a b)
     (pick (eqb op 7) (equal a b)
     (pick (eqb op 8) (absolute a)
-    (pick (eqb op 9) (negate a) 0))))))))
+    (pick (eqb op 9) (negate a)
+    (pick (eqb op 10) (select a b c) 0)))))))))
 
 -- the table's column "inputs" by op number; there is no op 0
 abbrev pub operandTable : List ℕ
-operandTable = 0 ∷ 2 ∷ 2 ∷ 2 ∷ 2 ∷ 2 ∷ 2 ∷ 2 ∷ 1 ∷ 1 ∷ []
+operandTable = 0 ∷ 2 ∷ 2 ∷ 2 ∷ 2 ∷ 2 ∷ 2 ∷ 2 ∷ 1 ∷ 1 ∷ 3 ∷ []
 
 -- how many inputs the operation `op` has; 0 where there is no such operation
 unfoldable pub operands : ℕ → ℕ
 operands op = getD operandTable op 0
+
+-- x as the input k of the operation `op`, counted from 0: "a one-input op has 0 for the last"
+abbrev pub operand : (op k x : ℕ) → ℕ
+operand op k x = pick (ltb k (operands op)) x 0
 
 -- E1: "A tick is now a demand when the clock isn't 0."
 unfoldable pub demand : ℕ → Bool

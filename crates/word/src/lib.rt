@@ -3,7 +3,7 @@ use std::num::wrapping_add_u32;
 use std::num::wrapping_sub_u32;
 ghost use mathlib.Core.Path.{_≡_};
 ghost use Rattle.word.specs.Word.{withSign};
-ghost use Rattle.word.specs.Operation.{add as addOf, subtract as subtractOf, multiply as multiplyOf, quotient as quotientOf, remainder as remainderOf, less as lessOf, equal as equalOf, absolute as absoluteOf, negate as negateOf, operate as operateOf, operands as operandsOf, demand as demandOf};
+ghost use Rattle.word.specs.Operation.{add as addOf, subtract as subtractOf, multiply as multiplyOf, quotient as quotientOf, remainder as remainderOf, less as lessOf, equal as equalOf, absolute as absoluteOf, negate as negateOf, select as selectOf, operate as operateOf, operands as operandsOf, demand as demandOf};
 
 // The words from here on stand for negative numbers.
 const HALF: u32 = 2147483648;
@@ -83,9 +83,16 @@ pub fn equal(a: u32, b: u32) -> u32
     if a == b { 1 } else { 0 }
 }
 
-// The operation of the number `op`; one with one input does not read b.
-pub fn operate(op: u32, a: u32, b: u32) -> u32
-    ensures { λ r. ⌜ r ≡ operateOf op a b ⌝ }
+// The second where the first is 0, otherwise the third.
+pub fn select(a: u32, b: u32, c: u32) -> u32
+    ensures { λ r. ⌜ r ≡ selectOf a b c ⌝ }
+{
+    if a != 0 { c } else { b }
+}
+
+// The operation of the number `op`; one with fewer inputs does not read the others.
+pub fn operate(op: u32, a: u32, b: u32, c: u32) -> u32
+    ensures { λ r. ⌜ r ≡ operateOf op a b c ⌝ }
 {
     match op {
         1 => add(a, b),
@@ -97,12 +104,13 @@ pub fn operate(op: u32, a: u32, b: u32) -> u32
         7 => equal(a, b),
         8 => absolute(a),
         9 => negate(a),
+        10 => select(a, b, c),
         _ => 0,
     }
 }
 
 // How many inputs an operation has, by its number; there is no operation 0.
-const OPERANDS: [u32; 10] = [0, 2, 2, 2, 2, 2, 2, 2, 1, 1];
+const OPERANDS: [u32; 11] = [0, 2, 2, 2, 2, 2, 2, 2, 1, 1, 3];
 
 // The inputs of the operation `op`; 0 where there is no such operation.
 pub fn operands(op: u32) -> u32

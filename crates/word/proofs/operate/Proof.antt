@@ -32,6 +32,9 @@ absolute-requires c κs = search needs
 negate-requires : tie.Need-negate-requires
 negate-requires c κs = search needs
 
+select-requires : tie.Need-select-requires
+select-requires c κs = search needs
+
 returns : tie.Need-returns
 unfolding operate
 returns c = rw (c .before .match .keys1) (c .add .ensures)
@@ -70,8 +73,12 @@ returns-9 c = rw (c .before .match .keys9) (c .negate .ensures)
 
 returns-10 : tie.Need-returns-10
 unfolding operate
-returns-10 c =
-    simp (ne-eqb _ _ (c .match .rest .0 .0 .0 .0 .0 .0 .0 .0 .1), ne-eqb _ _ (c .match .rest .0 .0 .0 .0 .0 .0 .0 .1), ne-eqb _ _ (c .match .rest .0 .0 .0 .0 .0 .0 .1), ne-eqb _ _ (c .match .rest .0 .0 .0 .0 .0 .1), ne-eqb _ _ (c .match .rest .0 .0 .0 .0 .1), ne-eqb _ _ (c .match .rest .0 .0 .0 .1), ne-eqb _ _ (c .match .rest .0 .0 .1), ne-eqb _ _ (c .match .rest .0 .1), ne-eqb _ _ (c .match .rest .1))
+returns-10 c = rw (c .before .match .keys10) (c .select .ensures)
+
+returns-11 : tie.Need-returns-11
+unfolding operate
+returns-11 c =
+    simp (ne-eqb _ _ (c .match .rest .0 .0 .0 .0 .0 .0 .0 .0 .0 .1), ne-eqb _ _ (c .match .rest .0 .0 .0 .0 .0 .0 .0 .0 .1), ne-eqb _ _ (c .match .rest .0 .0 .0 .0 .0 .0 .0 .1), ne-eqb _ _ (c .match .rest .0 .0 .0 .0 .0 .0 .1), ne-eqb _ _ (c .match .rest .0 .0 .0 .0 .0 .1), ne-eqb _ _ (c .match .rest .0 .0 .0 .0 .1), ne-eqb _ _ (c .match .rest .0 .0 .0 .1), ne-eqb _ _ (c .match .rest .0 .0 .1), ne-eqb _ _ (c .match .rest .0 .1), ne-eqb _ _ (c .match .rest .1))
 
 pub operate-spec : {M : Type 1} → statement M
 operate-spec =
@@ -86,6 +93,7 @@ operate-spec =
     equal-requires
     absolute-requires
     negate-requires
+    select-requires
     returns
     returns-2
     returns-3
@@ -95,4 +103,5 @@ operate-spec =
     returns-7
     returns-8
     returns-9
-    returns-10)
+    returns-10
+    returns-11)

@@ -46,6 +46,12 @@ slice-aggregate-entry-2 c = search needs
 entry-requires-2 : tie.Need-entry-requires-2
 entry-requires-2 c κs = search needs
 
+slice-aggregate-entry-3 : tie.Need-slice-aggregate-entry-3
+slice-aggregate-entry-3 c = search needs
+
+entry-requires-3 : tie.Need-entry-requires-3
+entry-requires-3 c κs = search needs
+
 operate-requires : tie.Need-operate-requires
 operate-requires c κs = search needs
 
@@ -54,8 +60,8 @@ one-requires-3 c κs = search needs
 
 returns-3 : tie.Need-returns-3
 returns-3 c =
-    operation-ticked (c .before .before .before .before .before .before .before .before .before .before .before .before .before .before .before .pre .0) (c .before .before .before .before .before .before .before .before .before .before .before .before .before .before .before .pre .1 .0 .inside) (sym (c .before .before .before .before .before .before .before .before .before .before .before .kind-of .ensures) ∙ c .before .before .before .before .before .before .if3 .taken) (c .before .before .before .before .before .before .before .before .before .before .first-of .ensures)
-    (ins-at (c .before .before .before .before .before .before .before .before .before .before .before .before .before .before .before .pre .0) (c .before .before .before .before .before .before .before .before .before .before .before .before .before .before .before .pre .1 .0 .inside) (c .before .before .before .before .before .before .before .before .before .inputs-of .ensures)) (c .before .before .before .before .entry .ensures) (c .before .before .entry2 .ensures) (c .before .operate .ensures) (c .one3 .ensures)
+    operation-ticked (c .before .before .before .before .before .before .before .before .before .before .before .before .before .before .before .before .before .pre .0) (c .before .before .before .before .before .before .before .before .before .before .before .before .before .before .before .before .before .pre .1 .0 .inside) (sym (c .before .before .before .before .before .before .before .before .before .before .before .before .before .kind-of .ensures) ∙ c .before .before .before .before .before .before .before .before .if3 .taken) (c .before .before .before .before .before .before .before .before .before .before .before .before .first-of .ensures)
+    (ins-at (c .before .before .before .before .before .before .before .before .before .before .before .before .before .before .before .before .before .pre .0) (c .before .before .before .before .before .before .before .before .before .before .before .before .before .before .before .before .before .pre .1 .0 .inside) (c .before .before .before .before .before .before .before .before .before .before .before .inputs-of .ensures)) (c .before .before .before .before .before .before .entry .ensures) (c .before .before .before .before .entry2 .ensures) (c .before .before .entry3 .ensures) (c .before .operate .ensures) (c .one3 .ensures)
 
 cell-of-requires : tie.Need-cell-of-requires
 cell-of-requires c κs = search needs
@@ -63,17 +69,17 @@ cell-of-requires c κs = search needs
 index-requires-2 : tie.Need-index-requires-2
 index-requires-2 c κs = search needs
 
-slice-aggregate-entry-3 : tie.Need-slice-aggregate-entry-3
-slice-aggregate-entry-3 c = search needs
-
-entry-requires-3 : tie.Need-entry-requires-3
-entry-requires-3 c κs = search needs
-
 slice-aggregate-entry-4 : tie.Need-slice-aggregate-entry-4
 slice-aggregate-entry-4 c = search needs
 
 entry-requires-4 : tie.Need-entry-requires-4
 entry-requires-4 c κs = search needs
+
+slice-aggregate-entry-5 : tie.Need-slice-aggregate-entry-5
+slice-aggregate-entry-5 c = search needs
+
+entry-requires-5 : tie.Need-entry-requires-5
+entry-requires-5 c κs = search needs
 
 delay-at-requires : tie.Need-delay-at-requires
 delay-at-requires c κs =
@@ -92,14 +98,14 @@ returns-4 : tie.Need-returns-4
 returns-4 c =
     delay-ticked (c .before .before .before .before .before .before .before .before .before .before .before .before .before .before .before .before .before .before .before .before .before .pre .0) (c .before .before .before .before .before .before .before .before .before .before .before .before .before .before .before .before .before .before .before .before .before .pre .1 .0 .inside) (sym (c .before .before .before .before .before .before .before .before .before .before .before .before .before .before .before .before .before .kind-of .ensures) ∙ c .before .before .before .before .before .before .before .before .before .before .before .if4 .taken)
     (cell-at (c .before .before .before .before .before .before .before .before .before .before .before .before .before .before .before .before .before .before .before .before .before .pre .0) (c .before .before .before .before .before .before .before .before .before .before .before .before .before .before .before .before .before .before .before .before .before .pre .1 .0 .inside) (c .before .before .before .before .before .before .before .before .before .cell-of .ensures)) (c .before .before .before .before .before .before .before .before .index2 .ensures ∙ c .before .before .before .before .before .before .before .before .before .before .before .before .before .before .before .before .first-of .ensures)
-    (ins-at (c .before .before .before .before .before .before .before .before .before .before .before .before .before .before .before .before .before .before .before .before .before .pre .0) (c .before .before .before .before .before .before .before .before .before .before .before .before .before .before .before .before .before .before .before .before .before .pre .1 .0 .inside) (c .before .before .before .before .before .before .before .before .before .before .before .before .before .before .before .inputs-of .ensures)) (c .before .before .before .before .before .before .entry3 .ensures) (c .before .before .before .before .entry4 .ensures)
+    (ins-at (c .before .before .before .before .before .before .before .before .before .before .before .before .before .before .before .before .before .before .before .before .before .pre .0) (c .before .before .before .before .before .before .before .before .before .before .before .before .before .before .before .before .before .before .before .before .before .pre .1 .0 .inside) (c .before .before .before .before .before .before .before .before .before .before .before .before .before .before .before .inputs-of .ensures)) (c .before .before .before .before .before .before .entry4 .ensures) (c .before .before .before .before .entry5 .ensures)
     (c .before .before .before .delay-at .ensures .0) (c .before .before .before .delay-at .ensures .1) (c .one4 .ensures)
 
-slice-aggregate-entry-5 : tie.Need-slice-aggregate-entry-5
-slice-aggregate-entry-5 c = search needs
+slice-aggregate-entry-6 : tie.Need-slice-aggregate-entry-6
+slice-aggregate-entry-6 c = search needs
 
-entry-requires-5 : tie.Need-entry-requires-5
-entry-requires-5 c κs = search needs
+entry-requires-6 : tie.Need-entry-requires-6
+entry-requires-6 c κs = search needs
 
 one-requires-5 : tie.Need-one-requires-5
 one-requires-5 c κs = search needs
@@ -107,7 +113,7 @@ one-requires-5 c κs = search needs
 returns-5 : tie.Need-returns-5
 returns-5 c =
     cable-ticked (c .before .before .before .before .before .before .before .before .before .before .before .before .before .before .pre .0) (c .before .before .before .before .before .before .before .before .before .before .before .before .before .before .pre .1 .0 .inside) (sym (c .before .before .before .before .before .before .before .before .before .before .kind-of .ensures) ∙ c .before .before .before .if5 .taken)
-    (ins-at (c .before .before .before .before .before .before .before .before .before .before .before .before .before .before .pre .0) (c .before .before .before .before .before .before .before .before .before .before .before .before .before .before .pre .1 .0 .inside) (c .before .before .before .before .before .before .before .before .inputs-of .ensures)) (c .before .entry5 .ensures) (c .one5 .ensures)
+    (ins-at (c .before .before .before .before .before .before .before .before .before .before .before .before .before .before .pre .0) (c .before .before .before .before .before .before .before .before .before .before .before .before .before .before .pre .1 .0 .inside) (c .before .before .before .before .before .before .before .before .inputs-of .ensures)) (c .before .entry6 .ensures) (c .one5 .ensures)
 
 returns-6 : tie.Need-returns-6
 returns-6 c =
@@ -131,21 +137,23 @@ leaf-step-spec =
     entry-requires
     slice-aggregate-entry-2
     entry-requires-2
+    slice-aggregate-entry-3
+    entry-requires-3
     operate-requires
     one-requires-3
     returns-3
     cell-of-requires
     index-requires-2
-    slice-aggregate-entry-3
-    entry-requires-3
     slice-aggregate-entry-4
     entry-requires-4
+    slice-aggregate-entry-5
+    entry-requires-5
     delay-at-requires
     one-requires-4
     same-length
     returns-4
-    slice-aggregate-entry-5
-    entry-requires-5
+    slice-aggregate-entry-6
+    entry-requires-6
     one-requires-5
     returns-5
     returns-6)
