@@ -21,6 +21,10 @@ and-false : (a : Bool) → a and false ≡ false
 and-false true = refl
 and-false false = refl
 
+pub and-true : (a : Bool) → a and true ≡ a
+and-true true = refl
+and-true false = refl
+
 -- the parts of a conjunction that holds
 pub two : (a b c : Bool) → a and b and c ≡ true → (a ≡ true) × (b ≡ true)
 two a b c h = (first-true a _ h, first-true b c (second-true a _ h))

@@ -1,26 +1,16 @@
 -- The effect of an instruction of each kind, and of instructions one after another.
-use Prim.Native.Nat.{ℕ, suc}
-use mathlib.Core.Path.{_≡_, refl, sym, ap, ap₂, _∙_}
-use mathlib.Core.Bool.{Bool, true, false, false≢true}
+use Prim.Native.Nat.{ℕ, suc, _<_}
+use mathlib.Core.Path.{_≡_, refl, ap, ap₂, _∙_}
 use mathlib.Core.List.{List, [], _∷_, _++_, append-assoc, append-nil}
-use borrow.Author.Tests.{eqb-true, ne-eqb}
-use lib.Dec.{eqb}
+use borrow.Author.Tests.{lt-ltb}
 use lib.ListN.{length, getD, set}
 use Rattle.word.specs.Choice.{pick}
-use Rattle.word.specs.Operation.{operate, operands, add, demand}
+use Rattle.word.specs.Operation.{operate, operands, operand, add, demand}
 use Rattle.word.specs.Tick.{zeros}
+use Rattle.word.proofs.OperandCounts.{reads-its-own}
 use Rattle.cells.specs.Delay.{delayed, moved}
 use Rattle.flat.specs.Flat.{Instruction, Machine, machine, Effect, effect, worked, execute, execute1}
 use Rattle.flat.specs.Instructions as flat
-
--- an operation that has not two inputs does not look at the second
-module _ (op : ℕ) (e : eqb (operands op) 2 ≡ false) where
-  other : (k : ℕ) → eqb (operands k) 2 ≡ true → eqb op k ≡ false
-  other k t = ne-eqb op k (λ q. false≢true (sym (rw q at e) ∙ t))
-
-  pub second-unused : (x y z : ℕ) → operate op x y ≡ operate op x z
-  unfolding operate operands
-  second-unused x y z = simp (other 1 refl, other 2 refl, other 3 refl, other 4 refl, other 5 refl, other 6 refl, other 7 refl)
 
 module _ (controls : List ℕ) where
   -- one instruction, over registers ρ and cells cs, by the values u and v of the registers x and y
@@ -33,20 +23,17 @@ module _ (controls : List ℕ) where
     unfolding worked
     control-works slot = refl
 
-    pub operation-works : (op x y : ℕ) {u v : ℕ} → getD ρ x 0 ≡ u → (operands op ≡ 2 → getD ρ y 0 ≡ v) → worked controls (flat.operation op x y) ρ cs ≡ effect (operate op u v) 0 cs
+    pub operation-works : (op x y z : ℕ) {u v w : ℕ} → getD ρ x 0 ≡ u → (1 < operands op → getD ρ y 0 ≡ v) → (2 < operands op → getD ρ z 0 ≡ w)
+        → worked controls (flat.operation op x y z) ρ cs ≡ effect (operate op u v w) 0 cs
     unfolding worked
-    operation-works op x y {u} {v} e g = ap (λ w. effect w 0 cs) (ap (λ w. operate op w (operand (eqb (operands op) 2))) e ∙ go (eqb (operands op) 2) refl)
+    operation-works op x y z {u} e f g = ap (λ v. effect v 0 cs) (rw e (reads-its-own op u (named 1 y f) (named 2 z g)))
       where
-        operand : Bool → ℕ
-        operand two = pick two (getD ρ (pick two y 0) 0) 0
-
-        go : (two : Bool) → eqb (operands op) 2 ≡ two → operate op u (operand two) ≡ operate op u v
-        go true t = ap (operate op u) (g (eqb-true (operands op) 2 t))
-        go false t = second-unused op t u 0 v
+        named : (k r : ℕ) {v : ℕ} → (k < operands op → getD ρ r 0 ≡ v) → k < operands op → getD ρ (operand op k r) 0 ≡ v
+        named k r f h = rw (lt-ltb k (operands op) h) (f h)
 
     pub addition-works : (x y : ℕ) {u v : ℕ} → getD ρ x 0 ≡ u → getD ρ y 0 ≡ v → worked controls (flat.addition x y) ρ cs ≡ effect (add u v) 0 cs
-    unfolding worked operate operands
-    addition-works x y e g = ap₂ (λ u v. effect (add u v) 0 cs) e g
+    unfolding operate
+    addition-works x y e g = operation-works 1 x y 0 e (λ h. g) (λ h. refl)
 
     pub delay-works : (x y a d : ℕ) {u v : ℕ} → getD ρ x 0 ≡ u → getD ρ y 0 ≡ v → worked controls (flat.delay x y a d) ρ cs ≡ effect (delayed a d u v cs) 0 (moved a d u cs)
     unfolding worked

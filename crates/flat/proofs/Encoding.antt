@@ -8,7 +8,7 @@ use lib.ListN.{length, length-append}
 use lib.Seq.{take-length, drop-append-seam}
 use Rattle.word.proofs.Lists.{both-true, is-most, same-number}
 use Rattle.flat.specs.Flat.{Instruction, width}
-use Rattle.flat.specs.Code.{Code, resultsAt, numbers, encode, instructionsOf, decode}
+use Rattle.flat.specs.Code.{Code, resultsAt, instructionNumbers, numbers, encode, instructionsOf, decode}
 use Rattle.flat.specs.Check.{headerOk, bodyOk, codeOk}
 
 pub numbers-length : (is : List Instruction) → length (numbers is) ≡ width * length is
@@ -17,7 +17,7 @@ numbers-length (x ∷ is) = omega (arith, numbers-length is)
 
 pub numbers-append : (is js : List Instruction) → numbers (is ++ js) ≡ numbers is ++ numbers js
 numbers-append [] js = refl
-numbers-append (x ∷ is) js = ap {B = List ℕ} (λ l. x .code ∷ x .a ∷ x .b ∷ x .c ∷ x .d ∷ l) (numbers-append is js)
+numbers-append (x ∷ is) js = ap (λ l. instructionNumbers x ++ l) (numbers-append is js)
 
 instructions-back : (is : List Instruction) (rs : List ℕ) → instructionsOf (length is) (numbers is ++ rs) ≡ is
 instructions-back [] rs = refl

@@ -4,15 +4,16 @@ use mathlib.Core.Path.{_≡_, refl}
 use mathlib.Core.Bool.{Bool, true, false}
 use mathlib.Core.List.{List, [], _∷_, _++_}
 use native.Mathlib.Nat.{add-zero, add-suc, suc-add}
-use borrow.Author.Tests.{eqb-true}
-use lib.Dec.{eqb, leb, ltb}
+use native.Mathlib.Omega.{arith}
+use borrow.Author.Tests.{ltb-true}
+use lib.Dec.{eqb, leb, ltb, lit<}
 use lib.ListN.{length}
 use Rattle.word.specs.Choice.{pick}
-use Rattle.word.specs.Operation.{operands}
+use Rattle.word.specs.Operation.{operands, operand}
 use Rattle.word.proofs.Lists.{both-true, first-true, second-true, is-below, is-most}
 use Rattle.flat.specs.Flat.{Instruction}
 use Rattle.flat.specs.Instructions as flat
-use Rattle.flat.specs.Check.{instructionOk, instructionsOk}
+use Rattle.flat.specs.Check.{inputOk, instructionOk, instructionsOk}
 
 -- in a code of so many cells, whose registers end before `end`, with the own register r
 module _ (cells end r : ℕ) where
@@ -24,25 +25,26 @@ module _ (cells end r : ℕ) where
   unfolding instructionOk
   control-ok slot h = both-true (ltb slot 16) true (is-below slot 16 h) refl
 
-  second-ok : (y : ℕ) (two : Bool) → (two ≡ true → y < r) → pick two (ltb (pick two y 0) r) (eqb (pick two y 0) 0) ≡ true
-  second-ok y true g = is-below y r (g refl)
-  second-ok y false g = refl
+  input-ok : (op k x : ℕ) → (k < operands op → x < r) → inputOk op k r (operand op k x) ≡ true
+  input-ok op k x h = go (ltb k (operands op)) (λ e. h (ltb-true k (operands op) e))
+    where
+      go : (has : Bool) → (has ≡ true → x < r) → pick has (ltb (pick has x 0) r) (eqb (pick has x 0) 0) ≡ true
+      go true h = is-below x r (h refl)
+      go false h = refl
 
-  pub operation-ok : (op x y : ℕ) → 0 < operands op → x < r → (operands op ≡ 2 → y < r) → instructionOk cells end r (flat.operation op x y) ≡ true
+  pub operation-ok : (op x y z : ℕ) → 0 < operands op → x < r → (1 < operands op → y < r) → (2 < operands op → z < r) → instructionOk cells end r (flat.operation op x y z) ≡ true
   unfolding instructionOk
-  operation-ok op x y o h g =
+  operation-ok op x y z o h f g =
       both-true (ltb 0 (operands op)) _ (is-below 0 (operands op) o)
-      (both-true (ltb x r) _ (is-below x r h)
-      (both-true _ true (second-ok y (eqb (operands op) 2) (λ e. g (eqb-true (operands op) 2 e))) refl))
+      (both-true (ltb x r) _ (is-below x r h) (both-true _ _ (input-ok op 1 y f) (both-true _ true (input-ok op 2 z g) refl)))
 
   pub addition-ok : (x y : ℕ) → x < r → y < r → instructionOk cells end r (flat.addition x y) ≡ true
-  unfolding instructionOk operands
-  addition-ok x y h g = both-true (ltb x r) _ (is-below x r h) (both-true (ltb y r) true (is-below y r g) refl)
+  addition-ok x y h g = operation-ok 1 x y 0 (unfold operands in lit< tt) h (λ e. g) (λ e. omega arith)
 
   pub delay-ok : (x y a d : ℕ) → x < r → y < r → d ≤ 4095 → a + suc d ≤ cells → instructionOk cells end r (flat.delay x y a d) ≡ true
   unfolding instructionOk
   delay-ok x y a d h g l u =
-      both-true (ltb x r) _ (is-below x r h) (both-true (ltb y r) _ (is-below y r g) (both-true (leb d 4095) _ (is-most d 4095 l) (is-most (a + suc d) cells u)))
+      both-true (ltb x r) _ (is-below x r h) (both-true (ltb y r) _ (is-below y r g) (both-true (leb d 4095) _ (is-most d 4095 l) (both-true (leb (a + suc d) cells) true (is-most (a + suc d) cells u) refl)))
 
   pub read-ok : (a : ℕ) → a < cells → instructionOk cells end r (flat.read a) ≡ true
   unfolding instructionOk

@@ -1,29 +1,21 @@
 -- One instruction: what its check says of it, row by row of the table, and what follows for its effect.
 use Prim.Native.Nat.{ℕ, suc, _+_, _≤_, _<_}
-use mathlib.Core.Path.{_≡_, refl, sym, _∙_, subst}
+use mathlib.Core.Path.{_≡_, refl, sym, ap, _∙_, subst}
 use mathlib.Core.Bool.{Bool, true, false, false≢true}
 use mathlib.Core.List.{List}
 use native.Mathlib.Omega.{arith}
-use borrow.Author.Tests.{leb-true, eqb-true, ltb-true, lt-ltb}
+use borrow.Author.Tests.{leb-true, eqb-true, ltb-true, ltb-false, lt-ltb}
 use lib.Dec.{eqb, leb, ltb}
 use lib.ListN.{length, getD, take}
 use lib.Seq.{getD-take}
 use Rattle.word.specs.Choice.{_and_, pick}
 use Rattle.word.specs.Operation.{operate, operandTable, operands, demand}
 use Rattle.word.proofs.Lists.{first-true}
-use Rattle.word.proofs.OperandCounts.{in-table}
+use Rattle.word.proofs.OperandCounts.{in-table, reads-its-own}
 use Rattle.flat.specs.Flat.{Instruction, effect, worked}
-use Rattle.flat.specs.Check.{instructionOk}
+use Rattle.flat.specs.Check.{inputOk, instructionOk}
 use Rattle.flat.specs.Steps.{Workable}
 use Rattle.flat.proofs.Decoded.{two, four}
-use Rattle.flat.proofs.Effects.{second-unused}
-
-pub operate-pick : (op x y : ℕ) → operate op x (pick (eqb (operands op) 2) y 0) ≡ operate op x y
-operate-pick op x y = go (eqb (operands op) 2) refl
-  where
-    go : (t : Bool) → eqb (operands op) 2 ≡ t → operate op x (pick t y 0) ≡ operate op x y
-    go true e = refl
-    go false e = second-unused op e x 0 y
 
 -- the rows of the table, by their codes
 pub data Row : ℕ → Type 0 where
@@ -60,22 +52,23 @@ module _ (cells end r : ℕ) (x : Instruction) (h : instructionOk cells end r x 
   unfolding instructionOk
   says-op e = ltb-true _ _ (first-true (ltb 0 (operands (x .a))) _ (rw e at h))
 
-  says3 : x .code ≡ 3 → (x .b < r) × (x .c < r)
+  says3 : x .code ≡ 3 → (x .b < r) × ((x .c < r) × (x .e < r))
   unfolding instructionOk
   says3 e =
-      let q = four (ltb 0 (operands (x .a))) (ltb (x .b) r) (pick (eqb (operands (x .a)) 2) (ltb (x .c) r) (eqb (x .c) 0)) (eqb (x .d) 0) (rw e at h) in
+      let q = four (ltb 0 (operands (x .a))) (ltb (x .b) r) (inputOk (x .a) 1 r (x .c)) (inputOk (x .a) 2 r (x .e) and eqb (x .d) 0) (rw e at h) in
       let l : x .b < r = ltb-true _ _ (q .1 .0) in
-      (l, go (eqb (operands (x .a)) 2) l (q .1 .1 .0))
+      (l, (go (ltb 1 (operands (x .a))) (x .c) l (q .1 .1 .0), go (ltb 2 (operands (x .a))) (x .e) l (first-true (inputOk (x .a) 2 r (x .e)) _ (q .1 .1 .1))))
     where
-      go : (t : Bool) → x .b < r → pick t (ltb (x .c) r) (eqb (x .c) 0) ≡ true → x .c < r
-      go true l e = ltb-true (x .c) r e
-      go false l e = omega (arith, eqb-true (x .c) 0 e)
+      -- an unused number is 0, and there is a register below
+      go : (has : Bool) (y : ℕ) → x .b < r → pick has (ltb y r) (eqb y 0) ≡ true → y < r
+      go true y l e = ltb-true y r e
+      go false y l e = omega (arith, eqb-true y 0 e)
 
   says4 : x .code ≡ 4 → (x .a < r) × ((x .b < r) × ((x .d ≤ 4095) × (x .c + suc (x .d) ≤ cells)))
   unfolding instructionOk
   says4 e =
-      let q = four (ltb (x .a) r) (ltb (x .b) r) (leb (x .d) 4095) (leb (x .c + suc (x .d)) cells) (rw e at h) in
-      (ltb-true _ _ (q .0), (ltb-true _ _ (q .1 .0), (leb-true _ _ (q .1 .1 .0), leb-true _ _ (q .1 .1 .1))))
+      let q = four (ltb (x .a) r) (ltb (x .b) r) (leb (x .d) 4095) (leb (x .c + suc (x .d)) cells and eqb (x .e) 0) (rw e at h) in
+      (ltb-true _ _ (q .0), (ltb-true _ _ (q .1 .0), (leb-true _ _ (q .1 .1 .0), leb-true _ _ (first-true (leb (x .c + suc (x .d)) cells) _ (q .1 .1 .1)))))
 
   says5 : x .code ≡ 5 → x .a < cells
   unfolding instructionOk
@@ -101,7 +94,7 @@ works-below cells end r controls x ρ cs h = go refl (row cells end r x h)
     go : {k : ℕ} → x .code ≡ k → Row k → worked controls x (take r ρ) cs ≡ worked controls x ρ cs
     go e number = rw e
     go e control = rw e
-    go e operation = let o = says3 cells end r x h e in rw (e, getD-take r ρ (x .b) 0 (o .0), getD-take r ρ (x .c) 0 (o .1))
+    go e operation = let o = says3 cells end r x h e in rw (e, getD-take r ρ (x .b) 0 (o .0), getD-take r ρ (x .c) 0 (o .1 .0), getD-take r ρ (x .e) 0 (o .1 .1))
     go e delay = let o = says4 cells end r x h e in rw (e, getD-take r ρ (x .a) 0 (o .0), getD-take r ρ (x .b) 0 (o .1 .0))
     go e read = rw e
     go e write = rw (e, getD-take r ρ (x .b) 0 (says6 cells end r x h e .1))
@@ -159,21 +152,21 @@ key-op a j skip e = omega arith
 
 -- where the key is none of these, it is a skip's
 abbrev Rest : Type 0 → ℕ → Type 0
-Rest A z = (((((((((((((A × (z ≡ 1 → ⊥)) × (z ≡ 2 → ⊥)) × (z ≡ 4 → ⊥)) × (z ≡ 5 → ⊥)) × (z ≡ 6 → ⊥)) × (z ≡ 8 → ⊥)) × (z ≡ 9 → ⊥)) × (z ≡ 10 → ⊥)) × (z ≡ 11 → ⊥)) × (z ≡ 12 → ⊥)) × (z ≡ 13 → ⊥)) × (z ≡ 14 → ⊥)) × (z ≡ 15 → ⊥)) × (z ≡ 16 → ⊥)
+Rest A z = ((((((((((((((A × (z ≡ 1 → ⊥)) × (z ≡ 2 → ⊥)) × (z ≡ 4 → ⊥)) × (z ≡ 5 → ⊥)) × (z ≡ 6 → ⊥)) × (z ≡ 8 → ⊥)) × (z ≡ 9 → ⊥)) × (z ≡ 10 → ⊥)) × (z ≡ 11 → ⊥)) × (z ≡ 12 → ⊥)) × (z ≡ 13 → ⊥)) × (z ≡ 14 → ⊥)) × (z ≡ 15 → ⊥)) × (z ≡ 16 → ⊥)) × (z ≡ 17 → ⊥)
 
 key-left : {k : ℕ} {A : Type 0} (a : ℕ) → Row k → (k ≡ 3 → 0 < operands a) → Rest A (keyed k a) → k ≡ 7
-key-left a number o n = absurd (n .0 .0 .0 .0 .0 .0 .0 .0 .0 .0 .0 .0 .0 .1 refl)
-key-left a control o n = absurd (n .0 .0 .0 .0 .0 .0 .0 .0 .0 .0 .0 .0 .1 refl)
+key-left a number o n = absurd (n .0 .0 .0 .0 .0 .0 .0 .0 .0 .0 .0 .0 .0 .0 .1 refl)
+key-left a control o n = absurd (n .0 .0 .0 .0 .0 .0 .0 .0 .0 .0 .0 .0 .0 .1 refl)
 key-left a operation o n = let (l, h) = in-table a (o refl) in absurd (none l h (rw (lt-ltb 0 (operands a) (o refl)) at n))
   where
     on : {j : ℕ} → j ≤ a → (7 + a ≡ 7 + j → ⊥) → suc j ≤ a
     on l q = omega arith
 
     none : {A : Type 0} → 0 < a → a < length operandTable → Rest A (7 + a) → ⊥
-    none l h n = omega (arith, on (on (on (on (on (on (on (on (on l (n .0 .0 .0 .0 .0 .0 .0 .0 .1)) (n .0 .0 .0 .0 .0 .0 .0 .1)) (n .0 .0 .0 .0 .0 .0 .1)) (n .0 .0 .0 .0 .0 .1)) (n .0 .0 .0 .0 .1)) (n .0 .0 .0 .1)) (n .0 .0 .1)) (n .0 .1)) (n .1))
-key-left a delay o n = absurd (n .0 .0 .0 .0 .0 .0 .0 .0 .0 .0 .0 .1 refl)
-key-left a read o n = absurd (n .0 .0 .0 .0 .0 .0 .0 .0 .0 .0 .1 refl)
-key-left a write o n = absurd (n .0 .0 .0 .0 .0 .0 .0 .0 .0 .1 refl)
+    none l h n = omega (arith, on (on (on (on (on (on (on (on (on (on l (n .0 .0 .0 .0 .0 .0 .0 .0 .0 .1)) (n .0 .0 .0 .0 .0 .0 .0 .0 .1)) (n .0 .0 .0 .0 .0 .0 .0 .1)) (n .0 .0 .0 .0 .0 .0 .1)) (n .0 .0 .0 .0 .0 .1)) (n .0 .0 .0 .0 .1)) (n .0 .0 .0 .1)) (n .0 .0 .1)) (n .0 .1)) (n .1))
+key-left a delay o n = absurd (n .0 .0 .0 .0 .0 .0 .0 .0 .0 .0 .0 .0 .1 refl)
+key-left a read o n = absurd (n .0 .0 .0 .0 .0 .0 .0 .0 .0 .0 .0 .1 refl)
+key-left a write o n = absurd (n .0 .0 .0 .0 .0 .0 .0 .0 .0 .0 .1 refl)
 key-left a skip o n = refl
 
 -- the same where it is worked, by its key: the places that it reads and writes are there
@@ -185,18 +178,33 @@ module _ {key : ℕ} {x : Instruction} {controls ρ cs : List ℕ} (w : Workable
   code-is e m l = key-code (x .a) _ its-row (says-op _ _ _ _ (w .ok)) (sym (w .keyed) ∙ e) m l
 
   -- the operation 1 + j
-  pub op-is : (j : ℕ) → key ≡ 8 + j → (x .code ≡ 3) × (x .a ≡ 1 + j)
+  op-is : (j : ℕ) → key ≡ 8 + j → (x .code ≡ 3) × (x .a ≡ 1 + j)
   op-is j e = key-op (x .a) j its-row (sym (w .keyed) ∙ e)
 
   pub skip-left : {A : Type 0} → Rest A key → x .code ≡ 7
   skip-left {A} n = key-left (x .a) its-row (says-op _ _ _ _ (w .ok)) (subst (Rest A) (w .keyed) n)
 
-  pub op-there : {op : ℕ} → (x .code ≡ 3) × (x .a ≡ op) → (x .b < length ρ) × (x .c < length ρ)
-  op-there o = let s = says3 _ _ _ _ (w .ok) (o .0) in (omega (arith, s .0, w .room), omega (arith, s .1, w .room))
+  module _ (j : ℕ) (e : key ≡ 8 + j) where
+    named : (x .b < length ρ) × ((x .c < length ρ) × (x .e < length ρ))
+    named = let s = says3 _ _ _ _ (w .ok) (op-is j e .0) in (omega (arith, s .0, w .room), (omega (arith, s .1 .0, w .room), omega (arith, s .1 .1, w .room)))
 
-  pub op-works : {op v s : ℕ} → (x .code ≡ 3) × (x .a ≡ op) → (v ≡ operate op (getD ρ (x .b) 0) (getD ρ (x .c) 0)) × (s ≡ 0) → worked controls x ρ cs ≡ effect v s cs
-  unfolding worked
-  op-works o e = rw (o .0, operate-pick, o .1, e .0, e .1)
+    pub op-there : (x .b < length ρ) × (x .c < length ρ)
+    op-there = (named .0, named .1 .0)
+
+    pub third-there : x .e < length ρ
+    third-there = named .1 .1
+
+    -- with the third register's number t; of an operation that has no third input, with 0
+    op-works : {v s t : ℕ} → (2 < operands (1 + j) → t ≡ getD ρ (x .e) 0) → (v ≡ operate (1 + j) (getD ρ (x .b) 0) (getD ρ (x .c) 0) t) × (s ≡ 0)
+        → worked controls x ρ cs ≡ effect v s cs
+    unfolding worked
+    op-works g h = let o = op-is j e in rw (o .0, o .1, h .0, h .1) (ap (λ (v : ℕ). effect v 0 cs) (sym (reads-its-own (1 + j) _ (λ l. refl) g)))
+
+    pub two-work : {v s : ℕ} → ltb 2 (operands (1 + j)) ≡ false → (v ≡ operate (1 + j) (getD ρ (x .b) 0) (getD ρ (x .c) 0) 0) × (s ≡ 0) → worked controls x ρ cs ≡ effect v s cs
+    two-work f = op-works (λ l. omega (arith, ltb-false 2 (operands (1 + j)) f))
+
+    pub three-work : {v s t : ℕ} → t ≡ getD ρ (x .e) 0 → (v ≡ operate (1 + j) (getD ρ (x .b) 0) (getD ρ (x .c) 0) t) × (s ≡ 0) → worked controls x ρ cs ≡ effect v s cs
+    three-work f = op-works (λ l. f)
 
   pub control-there : key ≡ 2 → x .a < length controls
   control-there e = omega (arith, says2 _ _ _ _ (w .ok) (code-is e (omega arith) (omega arith)), w .sixteen)

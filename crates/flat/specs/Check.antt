@@ -14,19 +14,28 @@ abbrev pub allBelow : ℕ → List ℕ → Bool
 allBelow r [] = true
 allBelow r (x ∷ xs) = ltb x r and allBelow r xs
 
+-- "unused" numbers are 0
+abbrev pub unused : List ℕ → Bool
+unused [] = true
+unused (x ∷ xs) = eqb x 0 and unused xs
+
+-- the number x at the input k of the operation `op`: a register below r, or unused where the operation has no such input
+abbrev pub inputOk : (op k r x : ℕ) → Bool
+inputOk op k r x = pick (ltb k (operands op)) (ltb x r) (eqb x 0)
+
 -- An instruction whose own register is r, in a code with so many cells whose registers end before `end`:
 -- not "a code, op, slot, D or unused number wrong; a register negative or not below the instruction's own";
 -- not "a cell, each of a delay's D+1 included, outside the count; a skip count negative or past the end".
 -- An op is known where the table of operand counts has it.
 unfoldable pub instructionOk : (cells end r : ℕ) → Instruction → Bool
 instructionOk cells end r x =
-    pick (eqb (x .code) 1) (eqb (x .b) 0 and eqb (x .c) 0 and eqb (x .d) 0)
-    (pick (eqb (x .code) 2) (ltb (x .a) 16 and eqb (x .b) 0 and eqb (x .c) 0 and eqb (x .d) 0)
-    (pick (eqb (x .code) 3) (ltb 0 (operands (x .a)) and ltb (x .b) r and pick (eqb (operands (x .a)) 2) (ltb (x .c) r) (eqb (x .c) 0) and eqb (x .d) 0)
-    (pick (eqb (x .code) 4) (ltb (x .a) r and ltb (x .b) r and leb (x .d) 4095 and leb (x .c + suc (x .d)) cells)
-    (pick (eqb (x .code) 5) (ltb (x .a) cells and eqb (x .b) 0 and eqb (x .c) 0 and eqb (x .d) 0)
-    (pick (eqb (x .code) 6) (ltb (x .a) cells and ltb (x .b) r and eqb (x .c) 0 and eqb (x .d) 0)
-    (pick (eqb (x .code) 7) (ltb (x .a) r and leb (suc (r + x .b)) end and eqb (x .c) 0 and eqb (x .d) 0)
+    pick (eqb (x .code) 1) (unused (x .b ∷ x .c ∷ x .d ∷ x .e ∷ []))
+    (pick (eqb (x .code) 2) (ltb (x .a) 16 and unused (x .b ∷ x .c ∷ x .d ∷ x .e ∷ []))
+    (pick (eqb (x .code) 3) (ltb 0 (operands (x .a)) and ltb (x .b) r and inputOk (x .a) 1 r (x .c) and inputOk (x .a) 2 r (x .e) and eqb (x .d) 0)
+    (pick (eqb (x .code) 4) (ltb (x .a) r and ltb (x .b) r and leb (x .d) 4095 and leb (x .c + suc (x .d)) cells and eqb (x .e) 0)
+    (pick (eqb (x .code) 5) (ltb (x .a) cells and unused (x .b ∷ x .c ∷ x .d ∷ x .e ∷ []))
+    (pick (eqb (x .code) 6) (ltb (x .a) cells and ltb (x .b) r and unused (x .c ∷ x .d ∷ x .e ∷ []))
+    (pick (eqb (x .code) 7) (ltb (x .a) r and leb (suc (r + x .b)) end and unused (x .c ∷ x .d ∷ x .e ∷ []))
     false))))))
 
 -- instructions from the one whose own register is r on
@@ -34,7 +43,7 @@ unfoldable pub instructionsOk : (cells end r : ℕ) → List Instruction → Boo
 instructionsOk cells end r [] = true
 instructionsOk cells end r (x ∷ xs) = instructionOk cells end r x and instructionsOk cells end (suc r) xs
 
--- not "header negative or above 32, 32, 2,048, 16,384; length not 4+5c+m"
+-- not "header negative or above 32, 32, 2,048, 16,384; length not 4+6c+m"
 abbrev pub headerOk : List ℕ → Bool
 headerOk xs =
     leb (inputCount xs) 32 and leb (outputCount xs) 32 and leb (instructionCount xs) 2048 and leb (cellCount xs) 16384

@@ -12,12 +12,16 @@ pub record Code : Type 0 where
   pub instructions : List Instruction
   pub results : List ℕ
 
--- "Then c instructions of five numbers": their numbers, one after another
+-- the numbers of an instruction
+abbrev pub instructionNumbers : Instruction → List ℕ
+instructionNumbers x = x .code ∷ x .a ∷ x .b ∷ x .c ∷ x .d ∷ x .e ∷ []
+
+-- "Then c instructions": their numbers, one after another
 abbrev pub numbers : List Instruction → List ℕ
 numbers [] = []
-numbers (x ∷ xs) = x .code ∷ x .a ∷ x .b ∷ x .c ∷ x .d ∷ numbers xs
+numbers (x ∷ xs) = instructionNumbers x ++ numbers xs
 
--- "Header: inputs n, outputs m, instruction count c, cell count. Then c instructions of five numbers, then m output registers"
+-- "Header: inputs n, outputs m, instruction count c, cell count. Then c instructions .., then m output registers"
 unfoldable pub encode : Code → List ℕ
 encode k = k .inputs ∷ length (k .results) ∷ length (k .instructions) ∷ k .cells ∷ (numbers (k .instructions) ++ k .results)
 
@@ -44,7 +48,7 @@ resultsAt c = header + width * c
 
 -- the instruction that stands at p
 abbrev pub instructionAt : List ℕ → ℕ → Instruction
-instructionAt xs p = instruction (getD xs p 0) (getD xs (p + 1) 0) (getD xs (p + 2) 0) (getD xs (p + 3) 0) (getD xs (p + 4) 0)
+instructionAt xs p = instruction (getD xs p 0) (getD xs (p + 1) 0) (getD xs (p + 2) 0) (getD xs (p + 3) 0) (getD xs (p + 4) 0) (getD xs (p + 5) 0)
 
 -- the first c instructions
 abbrev pub instructionsOf : ℕ → List ℕ → List Instruction

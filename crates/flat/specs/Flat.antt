@@ -4,23 +4,24 @@ use mathlib.Core.List.{List, [], _∷_, _++_, map}
 use lib.ListN.{getD, set}
 use lib.Dec.{eqb}
 use Rattle.word.specs.Choice.{pick}
-use Rattle.word.specs.Operation.{operate, operands, demand}
+use Rattle.word.specs.Operation.{operate, demand}
 use Rattle.cells.specs.Delay.{delayed, moved}
 
--- "instructions of five numbers": the code and its operands in the table's order
+-- E4: "every instruction has six numbers": the code and its operands in the table's order
 pub record Instruction : Type 0 where
   pub code : ℕ
   pub a : ℕ
   pub b : ℕ
   pub c : ℕ
   pub d : ℕ
+  pub e : ℕ
 
-abbrev pub instruction : ℕ → ℕ → ℕ → ℕ → ℕ → Instruction
-instruction k x y z w = record { code = k; a = x; b = y; c = z; d = w }
+abbrev pub instruction : ℕ → ℕ → ℕ → ℕ → ℕ → ℕ → Instruction
+instruction k x y z w v = record { code = k; a = x; b = y; c = z; d = w; e = v }
 
 -- how many numbers an instruction has
 abbrev pub width : ℕ
-width = 5
+width = 6
 
 -- within a tick: the registers written so far, how many instructions are still to be skipped, and the cells.
 -- A register that is not yet written reads 0: "At the start of a tick those are 0".
@@ -42,14 +43,14 @@ abbrev pub effect : ℕ → ℕ → List ℕ → Effect
 effect v s cs = record { value = v; skip = s; cells = cs }
 
 -- The table of codes, over registers ρ and cells cs, for an instruction that is not skipped:
--- 1 "number", 2 "control", 3 "operation; a one-input op has 0 for the last", 4 "delay", 5 "read", 6 "write",
+-- 1 "number", 2 "control", 3 "operation", of op 10 the sixth "is the third input register", 4 "delay", 5 "read", 6 "write",
 -- 7 "skips the next instructions, count many, unless the register" is a demand, since E1 any number but 0; "codes 6 and 7 write 0".
 unfoldable pub worked : List ℕ → Instruction → List ℕ → List ℕ → Effect
 worked controls x ρ cs =
     let reg : ℕ → ℕ = λ r. getD ρ r 0 in
     pick (eqb (x .code) 1) (effect (x .a) 0 cs)
     (pick (eqb (x .code) 2) (effect (getD controls (x .a) 0) 0 cs)
-    (pick (eqb (x .code) 3) (effect (operate (x .a) (reg (x .b)) (pick (eqb (operands (x .a)) 2) (reg (x .c)) 0)) 0 cs)
+    (pick (eqb (x .code) 3) (effect (operate (x .a) (reg (x .b)) (reg (x .c)) (reg (x .e))) 0 cs)
     (pick (eqb (x .code) 4) (effect (delayed (x .c) (x .d) (reg (x .a)) (reg (x .b)) cs) 0 (moved (x .c) (x .d) (reg (x .a)) cs))
     (pick (eqb (x .code) 5) (effect (getD cs (x .a) 0) 0 cs)
     (pick (eqb (x .code) 6) (effect 0 0 (set cs (x .a) (reg (x .b))))

@@ -15,7 +15,7 @@ use Rattle.flat.specs.Check.{instructionOk, codeOk}
 
 -- an instruction as the code holds it
 abbrev pub listed : Listed → Instruction
-listed x = instruction (x .code) (x .a) (x .b) (x .c) (x .d)
+listed x = instruction (x .code) (x .a) (x .b) (x .c) (x .d) (x .e)
 
 -- what the header's check shows
 pub record Header (xs : List ℕ) : Type 0 where

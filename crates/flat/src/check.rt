@@ -10,31 +10,42 @@ use crate::format::instruction_at;
 use word::index;
 use word::operands;
 ghost use mathlib.Core.Path.{_≡_};
+ghost use mathlib.Core.List.{[], _∷_};
 ghost use Prim.Native.Nat.{_+_, _<_, _≤_};
 ghost use lib.ListN.{length, drop};
 ghost use lib.Dec.{eqb, ltb};
 ghost use Rattle.word.specs.Choice.{_and_, pick};
 ghost use Rattle.word.specs.Operation.{operands as operandsOf};
 ghost use Rattle.flat.specs.Code.{header, resultsAt, instructionsOf, inputCount, instructionCount, decode};
-ghost use Rattle.flat.specs.Check.{allBelow, instructionOk, instructionsOk, headerOk, bodyOk, codeOk};
+ghost use Rattle.flat.specs.Check.{unused as unusedOf, inputOk, allBelow, instructionOk, instructionsOk, headerOk, bodyOk, codeOk};
 ghost use Rattle.flat.specs.Steps.{listed, Header};
 
 // Unused numbers are 0.
-fn unused(b: u32, c: u32, d: u32) -> bool
-    ensures { λ r. ⌜ r ≡ (eqb b 0 and eqb c 0 and eqb d 0) ⌝ }
+fn unused(b: u32, c: u32, d: u32, e: u32) -> bool
+    ensures { λ r. ⌜ r ≡ unusedOf (b ∷ c ∷ d ∷ e ∷ []) ⌝ }
 {
-    b == 0 && (c == 0 && d == 0)
+    b == 0 && (c == 0 && (d == 0 && e == 0))
+}
+
+// The number at the input k of an operation with `count` inputs: a register, or unused.
+fn input_ok(count: u32, k: u32, own: u32, register: u32) -> bool
+    ensures { λ r. ⌜ r ≡ pick (ltb k count) (ltb register own) (eqb register 0) ⌝ }
+{
+    if k < count {
+        register < own
+    } else {
+        register == 0
+    }
 }
 
 // An operation: the table of operand counts knows it; as many registers as the table says; 0 for the others.
-fn operation_ok(op: u32, b: u32, c: u32, d: u32, own: u32) -> bool
-    ensures { λ r. ⌜ r ≡ (ltb 0 (operandsOf op) and ltb b own and pick (eqb (operandsOf op) 2) (ltb c own) (eqb c 0) and eqb d 0) ⌝ }
+fn operation_ok(x: Instruction, own: u32) -> bool
+    ensures { λ r. ⌜ r ≡ (ltb 0 (operandsOf (x .a)) and ltb (x .b) own and inputOk (x .a) 1 own (x .c) and inputOk (x .a) 2 own (x .e) and eqb (x .d) 0) ⌝ }
 {
-    let count = operands(op);
-    if count == 2 {
-        return b < own && (c < own && d == 0);
-    }
-    0 < count && (b < own && (c == 0 && d == 0))
+    let count = operands(x.a);
+    0 < count
+        && (x.b < own
+            && (input_ok(count, 1, own, x.c) && (input_ok(count, 2, own, x.e) && x.d == 0)))
 }
 
 // The instruction, whose own register is `own`.
@@ -43,16 +54,18 @@ fn instruction_ok(x: Instruction, cells: u32, end: u32, own: u32) -> bool
 {
     let code = x.code;
     match code {
-        1 => unused(x.b, x.c, x.d),
-        2 => x.a < 16 && unused(x.b, x.c, x.d),
-        3 => operation_ok(x.a, x.b, x.c, x.d, own),
+        1 => unused(x.b, x.c, x.d, x.e),
+        2 => x.a < 16 && unused(x.b, x.c, x.d, x.e),
+        3 => operation_ok(x, own),
         4 => {
             x.a < own
-                && (x.b < own && (x.d <= 4095 && index(x.c) + (index(x.d) + 1) <= index(cells)))
+                && (x.b < own
+                    && (x.d <= 4095
+                        && (index(x.c) + (index(x.d) + 1) <= index(cells) && x.e == 0)))
         }
-        5 => x.a < cells && unused(x.b, x.c, x.d),
-        6 => x.a < cells && (x.b < own && unused(0, x.c, x.d)),
-        7 => x.a < own && (index(own) + index(x.b) < index(end) && unused(0, x.c, x.d)),
+        5 => x.a < cells && unused(x.b, x.c, x.d, x.e),
+        6 => x.a < cells && (x.b < own && unused(0, x.c, x.d, x.e)),
+        7 => x.a < own && (index(own) + index(x.b) < index(end) && unused(0, x.c, x.d, x.e)),
         _ => false,
     }
 }

@@ -1,6 +1,6 @@
 // Flat code: its check and its runner.
 mod check;
-mod format;
+pub mod format;
 mod keys;
 mod machine;
 mod tick;

@@ -45,18 +45,18 @@ fn skips(clock: u32, count: usize) -> Effect
     }
 }
 
-// The operation `op` on the registers that an instruction names.
-fn operated(op: u32, x: Instruction, registers: &[u32]) -> Effect
+// The operation `op` on the registers that an instruction names, and a third number.
+fn operated(op: u32, x: Instruction, third: u32, registers: &[u32]) -> Effect
     requires { ⌜ (x .b < length (now registers)) × (x .c < length (now registers)) ⌝ }
-    ensures { λ r. ⌜ (r .value ≡ operateOf op (getD (now (registers .entry)) (x .b) 0) (getD (now (registers .entry)) (x .c) 0)) × (r .skip ≡ 0) ⌝ }
+    ensures { λ r. ⌜ (r .value ≡ operateOf op (getD (now (registers .entry)) (x .b) 0) (getD (now (registers .entry)) (x .c) 0) third) × (r .skip ≡ 0) ⌝ }
 {
     let b = index(x.b);
     let c = index(x.c);
-    gives(operate(op, registers[b], registers[c]))
+    gives(operate(op, registers[b], registers[c], third))
 }
 
 // One instruction that is not skipped, by its key. An operation's arm names it as a constant, so that each is compiled
-// for itself, and one jump finds it.
+// for itself, and one jump finds it; only the selector reads a third register.
 fn work(key: u32, x: Instruction, controls: &[u32], registers: &[u32], cells: &mut [u32]) -> Effect
     requires { ⌜ Workable key (listed x) (now controls) (now registers) (now cells) ⌝ }
     ensures { λ r. ⌜ worked (now (controls .entry)) (listed x) (now (registers .entry)) (now (cells .entry)) ≡ effect (r .value) (r .skip) (now (cells .exit)) ⌝ }
@@ -72,15 +72,16 @@ fn work(key: u32, x: Instruction, controls: &[u32], registers: &[u32], cells: &m
             cells[a] = registers[b];
             gives(0)
         }
-        8 => operated(1, x, registers),
-        9 => operated(2, x, registers),
-        10 => operated(3, x, registers),
-        11 => operated(4, x, registers),
-        12 => operated(5, x, registers),
-        13 => operated(6, x, registers),
-        14 => operated(7, x, registers),
-        15 => operated(8, x, registers),
-        16 => operated(9, x, registers),
+        8 => operated(1, x, 0, registers),
+        9 => operated(2, x, 0, registers),
+        10 => operated(3, x, 0, registers),
+        11 => operated(4, x, 0, registers),
+        12 => operated(5, x, 0, registers),
+        13 => operated(6, x, 0, registers),
+        14 => operated(7, x, 0, registers),
+        15 => operated(8, x, 0, registers),
+        16 => operated(9, x, 0, registers),
+        17 => operated(10, x, registers[index(x.e)], registers),
         _ => skips(registers[a], b),
     }
 }

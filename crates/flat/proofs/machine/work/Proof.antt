@@ -1,7 +1,9 @@
 -- `flat::machine::work` meets its contract, key by key.
+use mathlib.Core.Path.{refl}
 use native.Mathlib.Omega.{arith}
+use Rattle.word.specs.Operation.{operands}
 use Rattle.flat.specs.Flat.{worked}
-use Rattle.flat.proofs.Working.{code-is, op-is, skip-left, op-there, op-works, control-there, delay-there, cell-there, write-there, clock-there}
+use Rattle.flat.proofs.Working.{code-is, skip-left, op-there, third-there, two-work, three-work, control-there, delay-there, cell-there, write-there, clock-there}
 use borrow.Author.Needs.{needs}
 use Rattle.flat.proofs.machine.work.Statement.{statement}
 use Rattle.flat.proofs.machine.work.Tie as tie
@@ -75,31 +77,43 @@ gives-requires-5 : tie.Need-gives-requires-5
 gives-requires-5 c κs = search needs
 
 operated-requires : tie.Need-operated-requires
-operated-requires c κs = op-there (c .before .before .before .before .before .before .pre) (op-is (c .before .before .before .before .before .before .pre) 0 (c .match .keys6))
+operated-requires c κs = op-there (c .before .before .before .before .before .before .pre) 0 (c .match .keys6)
 
 operated-requires-2 : tie.Need-operated-requires-2
-operated-requires-2 c κs = op-there (c .before .before .before .before .before .before .pre) (op-is (c .before .before .before .before .before .before .pre) 1 (c .match .keys7))
+operated-requires-2 c κs = op-there (c .before .before .before .before .before .before .pre) 1 (c .match .keys7)
 
 operated-requires-3 : tie.Need-operated-requires-3
-operated-requires-3 c κs = op-there (c .before .before .before .before .before .before .pre) (op-is (c .before .before .before .before .before .before .pre) 2 (c .match .keys8))
+operated-requires-3 c κs = op-there (c .before .before .before .before .before .before .pre) 2 (c .match .keys8)
 
 operated-requires-4 : tie.Need-operated-requires-4
-operated-requires-4 c κs = op-there (c .before .before .before .before .before .before .pre) (op-is (c .before .before .before .before .before .before .pre) 3 (c .match .keys9))
+operated-requires-4 c κs = op-there (c .before .before .before .before .before .before .pre) 3 (c .match .keys9)
 
 operated-requires-5 : tie.Need-operated-requires-5
-operated-requires-5 c κs = op-there (c .before .before .before .before .before .before .pre) (op-is (c .before .before .before .before .before .before .pre) 4 (c .match .keys10))
+operated-requires-5 c κs = op-there (c .before .before .before .before .before .before .pre) 4 (c .match .keys10)
 
 operated-requires-6 : tie.Need-operated-requires-6
-operated-requires-6 c κs = op-there (c .before .before .before .before .before .before .pre) (op-is (c .before .before .before .before .before .before .pre) 5 (c .match .keys11))
+operated-requires-6 c κs = op-there (c .before .before .before .before .before .before .pre) 5 (c .match .keys11)
 
 operated-requires-7 : tie.Need-operated-requires-7
-operated-requires-7 c κs = op-there (c .before .before .before .before .before .before .pre) (op-is (c .before .before .before .before .before .before .pre) 6 (c .match .keys12))
+operated-requires-7 c κs = op-there (c .before .before .before .before .before .before .pre) 6 (c .match .keys12)
 
 operated-requires-8 : tie.Need-operated-requires-8
-operated-requires-8 c κs = op-there (c .before .before .before .before .before .before .pre) (op-is (c .before .before .before .before .before .before .pre) 7 (c .match .keys13))
+operated-requires-8 c κs = op-there (c .before .before .before .before .before .before .pre) 7 (c .match .keys13)
 
 operated-requires-9 : tie.Need-operated-requires-9
-operated-requires-9 c κs = op-there (c .before .before .before .before .before .before .pre) (op-is (c .before .before .before .before .before .before .pre) 8 (c .match .keys14))
+operated-requires-9 c κs = op-there (c .before .before .before .before .before .before .pre) 8 (c .match .keys14)
+
+index-requires-5 : tie.Need-index-requires-5
+index-requires-5 c κs = search needs
+
+mul-operated : tie.Need-mul-operated
+mul-operated c = search needs
+
+shared-slice-read-operated : tie.Need-shared-slice-read-operated
+shared-slice-read-operated c = omega (arith, third-there (c .before .before .before .before .before .before .before .before .pre) 9 (c .before .before .match .keys15), c .before .index5 .ensures)
+
+operated-requires-10 : tie.Need-operated-requires-10
+operated-requires-10 c κs = op-there (c .before .before .before .before .before .before .before .before .pre) 9 (c .before .before .match .keys15)
 
 mul-skips : tie.Need-mul-skips
 mul-skips c = search needs
@@ -137,35 +151,47 @@ unfolding worked
 returns-5 c = rw (code-is (c .before .before .before .before .before .before .before .before .pre) (c .before .before .match .keys5) (omega arith) (omega arith), c .gives5 .ensures .0, c .gives5 .ensures .1, c .before .before .before .before .index .ensures, c .before .before .before .index2 .ensures)
 
 returns-6 : tie.Need-returns-6
-returns-6 c = op-works (c .before .before .before .before .before .before .before .pre) (op-is (c .before .before .before .before .before .before .before .pre) 0 (c .before .match .keys6)) (c .operated .ensures)
+unfolding operands
+returns-6 c = two-work (c .before .before .before .before .before .before .before .pre) 0 (c .before .match .keys6) refl (c .operated .ensures)
 
 returns-7 : tie.Need-returns-7
-returns-7 c = op-works (c .before .before .before .before .before .before .before .pre) (op-is (c .before .before .before .before .before .before .before .pre) 1 (c .before .match .keys7)) (c .operated2 .ensures)
+unfolding operands
+returns-7 c = two-work (c .before .before .before .before .before .before .before .pre) 1 (c .before .match .keys7) refl (c .operated2 .ensures)
 
 returns-8 : tie.Need-returns-8
-returns-8 c = op-works (c .before .before .before .before .before .before .before .pre) (op-is (c .before .before .before .before .before .before .before .pre) 2 (c .before .match .keys8)) (c .operated3 .ensures)
+unfolding operands
+returns-8 c = two-work (c .before .before .before .before .before .before .before .pre) 2 (c .before .match .keys8) refl (c .operated3 .ensures)
 
 returns-9 : tie.Need-returns-9
-returns-9 c = op-works (c .before .before .before .before .before .before .before .pre) (op-is (c .before .before .before .before .before .before .before .pre) 3 (c .before .match .keys9)) (c .operated4 .ensures)
+unfolding operands
+returns-9 c = two-work (c .before .before .before .before .before .before .before .pre) 3 (c .before .match .keys9) refl (c .operated4 .ensures)
 
 returns-10 : tie.Need-returns-10
-returns-10 c = op-works (c .before .before .before .before .before .before .before .pre) (op-is (c .before .before .before .before .before .before .before .pre) 4 (c .before .match .keys10)) (c .operated5 .ensures)
+unfolding operands
+returns-10 c = two-work (c .before .before .before .before .before .before .before .pre) 4 (c .before .match .keys10) refl (c .operated5 .ensures)
 
 returns-11 : tie.Need-returns-11
-returns-11 c = op-works (c .before .before .before .before .before .before .before .pre) (op-is (c .before .before .before .before .before .before .before .pre) 5 (c .before .match .keys11)) (c .operated6 .ensures)
+unfolding operands
+returns-11 c = two-work (c .before .before .before .before .before .before .before .pre) 5 (c .before .match .keys11) refl (c .operated6 .ensures)
 
 returns-12 : tie.Need-returns-12
-returns-12 c = op-works (c .before .before .before .before .before .before .before .pre) (op-is (c .before .before .before .before .before .before .before .pre) 6 (c .before .match .keys12)) (c .operated7 .ensures)
+unfolding operands
+returns-12 c = two-work (c .before .before .before .before .before .before .before .pre) 6 (c .before .match .keys12) refl (c .operated7 .ensures)
 
 returns-13 : tie.Need-returns-13
-returns-13 c = op-works (c .before .before .before .before .before .before .before .pre) (op-is (c .before .before .before .before .before .before .before .pre) 7 (c .before .match .keys13)) (c .operated8 .ensures)
+unfolding operands
+returns-13 c = two-work (c .before .before .before .before .before .before .before .pre) 7 (c .before .match .keys13) refl (c .operated8 .ensures)
 
 returns-14 : tie.Need-returns-14
-returns-14 c = op-works (c .before .before .before .before .before .before .before .pre) (op-is (c .before .before .before .before .before .before .before .pre) 8 (c .before .match .keys14)) (c .operated9 .ensures)
+unfolding operands
+returns-14 c = two-work (c .before .before .before .before .before .before .before .pre) 8 (c .before .match .keys14) refl (c .operated9 .ensures)
 
 returns-15 : tie.Need-returns-15
+returns-15 c = three-work (c .before .before .before .before .before .before .before .before .before .pre) 9 (c .before .before .before .match .keys15) (rw (c .before .before .index5 .ensures)) (c .operated10 .ensures)
+
+returns-16 : tie.Need-returns-16
 unfolding worked
-returns-15 c = rw (skip-left (c .before .before .before .before .before .before .before .before .pre) (c .before .before .match .rest), c .skips .ensures .0, c .skips .ensures .1, c .before .before .before .before .index .ensures, c .before .before .before .index2 .ensures)
+returns-16 c = rw (skip-left (c .before .before .before .before .before .before .before .before .pre) (c .before .before .match .rest), c .skips .ensures .0, c .skips .ensures .1, c .before .before .before .before .index .ensures, c .before .before .before .index2 .ensures)
 
 pub work-spec : {M : Type 1} → statement M
 work-spec =
@@ -202,6 +228,10 @@ work-spec =
     operated-requires-7
     operated-requires-8
     operated-requires-9
+    index-requires-5
+    mul-operated
+    shared-slice-read-operated
+    operated-requires-10
     mul-skips
     shared-slice-read-skips
     skips-requires
@@ -221,4 +251,5 @@ work-spec =
     returns-12
     returns-13
     returns-14
-    returns-15)
+    returns-15
+    returns-16)
