@@ -49,9 +49,9 @@ exact-delivered table code t =
 abbrev printed : List ℕ
 printed =
     1 ∷ 1 ∷ 3 ∷ 1
-    ∷ 5 ∷ 0 ∷ 0 ∷ 0 ∷ 0
-    ∷ 3 ∷ 1 ∷ 1 ∷ 0 ∷ 0
-    ∷ 6 ∷ 0 ∷ 2 ∷ 0 ∷ 0
+    ∷ 5 ∷ 0 ∷ 0 ∷ 0 ∷ 0 ∷ 0
+    ∷ 3 ∷ 1 ∷ 1 ∷ 0 ∷ 0 ∷ 0
+    ∷ 6 ∷ 0 ∷ 2 ∷ 0 ∷ 0 ∷ 0
     ∷ 2
     ∷ []
 
@@ -59,7 +59,7 @@ integrator-code : translated integrator ≡ printed
 unfolding translated tree operands
 integrator-code = refl
 
-integrator-delivered : (code : List ℕ) {code′ : List ℕ} → outcome (count 20) code′ ≡ translatedTable integrator code → take 20 code′ ≡ printed
+integrator-delivered : (code : List ℕ) {code′ : List ℕ} → outcome (count 23) code′ ≡ translatedTable integrator code → take 23 code′ ≡ printed
 integrator-delivered code t = delivered integrator code t integrator-words ∙ integrator-code
 
 integrator-passes : codeOk printed ≡ true

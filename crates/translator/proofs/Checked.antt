@@ -91,7 +91,7 @@ module _ (cells end : ℕ) where
   emit-passes base (leaf i (control s)) xs n w p e b h = one-ok cells end n _ (control-ok cells end n s w)
   emit-passes base (leaf i (operation o)) xs n w p e b h =
       let some : 0 < operands o = w in
-      one-ok cells end n _ (operation-ok cells end n o (getD xs 0 0) (getD xs 1 0) some (below-at n 0 xs (omega arith) b) (λ two. below-at n 1 xs (omega arith) b))
+      one-ok cells end n _ (operation-ok cells end n o (getD xs 0 0) (getD xs 1 0) (getD xs 2 0) some (below-at n 0 xs (omega arith) b) (λ two. below-at n 1 xs (omega arith) b) (λ three. below-at n 2 xs (omega arith) b))
   emit-passes base (leaf i (delay d)) xs n w p e b h =
       one-ok cells end n _ (delay-ok cells end n (getD xs 0 0) (getD xs 1 0) (base i) d (below-at n 0 xs (omega arith) b) (below-at n 1 xs (omega arith) b) w p)
   emit-passes base (leaf i cable) xs n w p e b h = none-ok cells end n
@@ -181,7 +181,7 @@ module _ (n : ℕ) (t : Tree) (w : WellFormed t) where
   unfolding translation
   results-length = emit-outs (cellsBefore t) t (upFrom 0 (ins t)) (ins t) w
 
-  -- "length .. 4+5c+m"
+  -- "length .. 4+6c+m"
   pub encoded-length : length (encode (translation n t)) ≡ resultsAt (need t) + outs t
   encoded-length = encode-length (translation n t) ∙ ap₂ (λ (c m : ℕ). resultsAt c + m) code-length results-length
 

@@ -3,11 +3,8 @@ use Prim.Native.Nat.{ℕ, suc, _+_, _-_, _≤_, _<_}
 use mathlib.Core.Path.{_≡_, refl, sym, ap, ap₂, subst, _∙_}
 use mathlib.Core.List.{List, [], _∷_, _++_}
 use native.Mathlib.Omega.{arith}
-use lib.Dec.{eqb}
 use lib.ListN.{length, getD, take, drop}
 use lib.Seq.{take-take, take-nil}
-use Rattle.word.specs.Choice.{pick}
-use Rattle.word.specs.Operation.{operands}
 use Rattle.word.specs.Tick.{headOr, tailOf}
 use Rattle.arity.specs.Tree.{Tree, ins, outs, size, need}
 use Rattle.arity.specs.Tree.Tree.{leaf, ondemand}
@@ -16,7 +13,6 @@ use Rattle.arity.specs.Survey.{rowAt}
 use Rattle.arity.specs.Promise.{Node}
 use Rattle.arity.specs.declared.rows.Row.{Row}
 use Rattle.walker.specs.Ready.{base, Demands, leftTree, insOf, outsOf}
-use Rattle.flat.specs.Flat.{instruction}
 use Rattle.flat.specs.Instructions as flat
 use Rattle.translator.specs.Emit.{Emitted, emitted, single, emit, reads, writes, upFrom}
 use Rattle.translator.specs.Writing.{Room, Written, Puts}
@@ -64,10 +60,10 @@ module _ {table shape : List ℕ} {i : ℕ} (t : Translatable table shape) (insi
     unfolding emit outs
     control-leaf e = leaf-by 2 p e (omega arith) (rw ev) refl
 
-  -- the inputs are the first n registers, the first two of them x and y
+  -- the inputs are the first n registers, the first of them x
   module _ (p : Progress) {n x : ℕ} (en : n ≡ ins (tree table i)) (ex : x ≡ getD (take n (p .regs)) 0 0) where
-    pub operation-leaf : {v y z : ℕ} → kindAt table i ≡ 3 → v ≡ firstAt table i → y ≡ getD (take n (p .regs)) 1 0 → z ≡ pick (eqb (operands v) 2) y 0
-        → Leaf table i p (single (instruction 3 v x z 0) (p .place .next)) 1
+    pub operation-leaf : {v y z : ℕ} → kindAt table i ≡ 3 → v ≡ firstAt table i → y ≡ getD (take n (p .regs)) 1 0 → z ≡ getD (take n (p .regs)) 2 0
+        → Leaf table i p (single (flat.operation v x y z) (p .place .next)) 1
     unfolding emit outs
     operation-leaf e ev ey ez = leaf-by 3 p e (omega arith) (rw (ez, ey, ex, en, ev)) refl
 

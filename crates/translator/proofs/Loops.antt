@@ -7,7 +7,7 @@ use native.Mathlib.Nat.{add-zero}
 use native.Mathlib.Numerals.{add-one}
 use lib.ListN.{length, getD, take, drop, set, replicate, length-take, drop-of-length-le}
 use lib.Seq.{drop-cons, getD-take, length-take-le, take-suc-set}
-use Rattle.flat.specs.Flat.{Instruction, instruction}
+use Rattle.flat.specs.Flat.{Instruction}
 use Rattle.flat.specs.Instructions as flat
 use Rattle.translator.specs.Emit.{Emitted, emitted, reads, writes, upFrom, terms, merges}
 use Rattle.translator.specs.Writing.{Room, Written, Puts, Summed, onCells}
@@ -29,21 +29,21 @@ reads-form a (suc k) zero h = absurd (omega arith)
 reads-form a (suc k) (suc n) h = ap {B = List Instruction} (λ is. flat.read a ∷ is) (reads-form (suc a) k n (omega arith))
 
 module _ (k a i n : ℕ) (xs : List ℕ) (inside : i < n) (few : n ≤ 32) (long : length xs ≡ 32) where
-  cell-first : onCells k a (drop i (take n xs)) ≡ (instruction k a (getD xs i 0) 0 0 ∷ []) ++ onCells k (a + 1) (drop (i + 1) (take n xs))
+  cell-first : onCells k a (drop i (take n xs)) ≡ (flat.onCell k a (getD xs i 0) ∷ []) ++ onCells k (a + 1) (drop (i + 1) (take n xs))
   unfolding onCells
   cell-first =
       let l : i < length (take n xs) = rw (length-take-le n xs (omega arith)) inside in
       rw (drop-cons (take n xs) i 0 l, getD-take n xs i 0 inside, add-one a, add-one i)
 
   module _ {e : Emitted} {p q : Place} {c c₁ : List ℕ} (g : Going e p c q c₁ [] (emitted (onCells k a (drop i (take n xs))) [])) where
-    cell-going : Going e p c q c₁ [] (emitted ((instruction k a (getD xs i 0) 0 0 ∷ []) ++ onCells k (a + 1) (drop (i + 1) (take n xs))) [])
+    cell-going : Going e p c q c₁ [] (emitted ((flat.onCell k a (getD xs i 0) ∷ []) ++ onCells k (a + 1) (drop (i + 1) (take n xs))) [])
     cell-going = subst (λ (is : List Instruction). Going e p c q c₁ [] (emitted is [])) cell-first g
 
-    pub cell-room : Room (instruction k a (getD xs i 0) 0 0 ∷ []) q c₁
-    cell-room = first-room (instruction k a (getD xs i 0) 0 0 ∷ []) _ cell-going
+    pub cell-room : Room (flat.onCell k a (getD xs i 0) ∷ []) q c₁
+    cell-room = first-room (flat.onCell k a (getD xs i 0) ∷ []) _ cell-going
 
-    pub cell-next : {s : Place} {c₂ : List ℕ} → Written (instruction k a (getD xs i 0) 0 0 ∷ []) q c₁ s c₂ → Going e p c s c₂ [] (emitted (onCells k (a + 1) (drop (i + 1) (take n xs))) [])
-    cell-next w = go-on (instruction k a (getD xs i 0) 0 0 ∷ []) _ cell-going w
+    pub cell-next : {s : Place} {c₂ : List ℕ} → Written (flat.onCell k a (getD xs i 0) ∷ []) q c₁ s c₂ → Going e p c s c₂ [] (emitted (onCells k (a + 1) (drop (i + 1) (take n xs))) [])
+    cell-next w = go-on (flat.onCell k a (getD xs i 0) ∷ []) _ cell-going w
 
 pub cells-done : {e : Emitted} {p q : Place} {c c₁ : List ℕ} (k a i n : ℕ) (xs : List ℕ) → Going e p c q c₁ [] (emitted (onCells k a (drop i (take n xs))) []) → n ≤ i → Going e p c q c₁ [] (emitted [] [])
 unfolding onCells

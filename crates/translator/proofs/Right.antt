@@ -63,7 +63,7 @@ module _ (base : ℕ → ℕ) (controls : List ℕ) where
   right (leaf i (control s)) xs vs n ρ cs w e k r = one-does controls e (control-works controls ρ cs s)
   right (leaf i (operation o)) xs vs n ρ cs w e k r =
       let some : 0 < operands o = w in
-      one-does controls e (operation-works controls ρ cs o (getD xs 0 0) (getD xs 1 0) (both-at 0 (omega arith) r .value) (λ two. both-at 1 (omega arith) r .value))
+      one-does controls e (operation-works controls ρ cs o (getD xs 0 0) (getD xs 1 0) (getD xs 2 0) (both-at 0 (omega arith) r .value) (λ two. both-at 1 (omega arith) r .value) (λ three. both-at 2 (omega arith) r .value))
   right (leaf i (delay d)) xs vs n ρ cs w e k r = one-does controls e (delay-works controls ρ cs (getD xs 0 0) (getD xs 1 0) (base i) d (both-at 0 (omega arith) r .value) (both-at 1 (omega arith) r .value))
   right (leaf i cable) xs vs n ρ cs w e k r = nothing controls (more (both-at 0 (omega arith) r) none)
   right (leaf i cut) xs vs n ρ cs w e k r = nothing controls none

@@ -58,7 +58,7 @@ unfoldable pub emit : (ℕ → ℕ) → Tree → List ℕ → ℕ → Emitted
 unfolding ins outs
 emit base (leaf i (number v)) xs n = single (flat.number v) n
 emit base (leaf i (control s)) xs n = single (flat.control s) n
-emit base (leaf i (operation o)) xs n = single (flat.operation o (getD xs 0 0) (getD xs 1 0)) n
+emit base (leaf i (operation o)) xs n = single (flat.operation o (getD xs 0 0) (getD xs 1 0) (getD xs 2 0)) n
 emit base (leaf i (delay d)) xs n = single (flat.delay (getD xs 0 0) (getD xs 1 0) (base i) d) n
 emit base (leaf i cable) xs n = emitted [] (getD xs 0 0 ∷ [])
 emit base (leaf i cut) xs n = emitted [] []

@@ -24,7 +24,7 @@ abbrev pub answerOf : TranslateAnswer → Answer
 answerOf (Numbers n) = count n
 answerOf (Refused r) = refusalOf r
 
--- "4+5c+m" numbers, c being the instructions needed
+-- E4: "4+6c+m" numbers, c being the instructions needed
 abbrev pub numbersOf : List ℕ → ℕ
 numbersOf table = resultsAt (need (circuit table)) + outs (circuit table)
 

@@ -4,7 +4,8 @@ use mathlib.Core.Path.{_≡_}
 use mathlib.Core.List.{List, [], _∷_, _++_}
 use lib.ListN.{length, take}
 use Rattle.cells.specs.Cells.{store}
-use Rattle.flat.specs.Flat.{Instruction, instruction, width}
+use Rattle.flat.specs.Flat.{Instruction, width}
+use Rattle.flat.specs.Instructions as flat
 use Rattle.flat.specs.Code.{numbers}
 use Rattle.translator.specs.Emit.{Emitted, emitted, terms}
 use Rattle.translator.specs.declared.place.Place.{Place}
@@ -35,7 +36,7 @@ pub record Summed (k b acc at : ℕ) (xs : List ℕ) (p : Place) (c : List ℕ) 
 -- an instruction on each cell from a on, with a register of the list: the form of reads, whose registers are 0, and of writes
 unfoldable pub onCells : (code a : ℕ) → List ℕ → List Instruction
 onCells k a [] = []
-onCells k a (x ∷ xs) = instruction k a x 0 0 ∷ onCells k (suc a) xs
+onCells k a (x ∷ xs) = flat.onCell k a x ∷ onCells k (suc a) xs
 
 -- one translation and then another, which goes on with the results and the next register that the first leaves
 abbrev pub follow : Emitted → (List ℕ → ℕ → Emitted) → ℕ → Emitted

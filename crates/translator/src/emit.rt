@@ -1,4 +1,8 @@
 // The translation of a node.
+use crate::instructions::control;
+use crate::instructions::delay;
+use crate::instructions::number;
+use crate::instructions::operation;
 use crate::parts::put_closing;
 use crate::parts::put_holding;
 use crate::parts::put_middle;
@@ -15,26 +19,11 @@ use beam::one;
 use walker::wiring::first_child;
 use walker::wiring::second_child;
 use word::index;
-use word::operands;
-ghost use mathlib.Core.Path.{_≡_};
 ghost use Prim.Native.Nat.{_≤_};
-ghost use lib.Dec.{eqb};
-ghost use Rattle.word.specs.Choice.{pick};
-ghost use Rattle.word.specs.Operation.{operands as operandsOf};
 ghost use Rattle.arity.specs.Table.{kindAt};
 ghost use Rattle.walker.specs.Ready.{Inside};
 ghost use Rattle.translator.specs.Writing.{Room};
 ghost use Rattle.translator.specs.Parts.{Translatable, emission, Emits};
-
-// The last operand of an operation: a one-input op has 0.
-fn last_operand(op: u32, y: u32) -> u32
-    ensures { λ r. ⌜ r ≡ pick (eqb (operandsOf op) 2) y 0 ⌝ }
-{
-    if operands(op) == 2 {
-        return y;
-    }
-    0
-}
 
 // The translation of a primitive.
 fn emit_leaf(
@@ -58,17 +47,18 @@ fn emit_leaf(
     let x = entry(&xs, n, 0);
     let y = entry(&xs, n, 1);
     if kind == 1 {
-        return push_one(code, place, 1, value, 0, 0, 0);
+        return push_one(code, place, number(value));
     }
     if kind == 2 {
-        return push_one(code, place, 2, value, 0, 0, 0);
+        return push_one(code, place, control(value));
     }
     if kind == 3 {
-        return push_one(code, place, 3, value, x, last_operand(value, y), 0);
+        let z = entry(&xs, n, 2);
+        return push_one(code, place, operation(value, x, y, z));
     }
     if kind == 4 {
         let own = row_at(shape, node);
-        return push_one(code, place, 4, x, y, own.cell, value);
+        return push_one(code, place, delay(x, y, own.cell, value));
     }
     if kind == 5 {
         return Progress {

@@ -1,5 +1,6 @@
 // The translator: a node table into flat code.
 mod emit;
+mod instructions;
 mod merge;
 mod parts;
 mod place;
@@ -8,10 +9,14 @@ use arity::CheckAnswer;
 use arity::survey;
 use beam::keep;
 use emit::emit_node;
-use place::HEADER;
+use flat::format::CELLS;
+use flat::format::HEADER;
+use flat::format::INPUTS;
+use flat::format::INSTRUCTIONS;
+use flat::format::OUTPUTS;
+use flat::format::WIDTH;
 use place::Place;
 use place::Progress;
-use place::WIDTH;
 use place::ascending;
 use refusal::Refusal;
 use word::index;
@@ -36,10 +41,10 @@ fn put_header(code: &mut [u32], n: u32, m: u32, c: u32, cells: u32)
     requires { ⌜ header ≤ length (now code) ⌝ }
     ensures { λ _. ⌜ now (code .exit) ≡ store 0 (n ∷ m ∷ c ∷ cells ∷ []) (now (code .entry)) ⌝ }
 {
-    code[0] = n;
-    code[1] = m;
-    code[2] = c;
-    code[3] = cells;
+    code[INPUTS] = n;
+    code[OUTPUTS] = m;
+    code[INSTRUCTIONS] = c;
+    code[CELLS] = cells;
 }
 
 // The instructions of a circuit behind its header, and its output registers.

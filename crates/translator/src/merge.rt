@@ -1,9 +1,10 @@
 // The additions of a merge.
+use crate::instructions::operation;
 use crate::place::Place;
 use crate::place::Progress;
 use crate::place::push;
 use beam::entry;
-ghost use Prim.Native.Nat.{_-_, _*_, _/_, _≤_};
+ghost use Prim.Native.Nat.{_-_, _/_, _≤_};
 ghost use lib.ListN.{take};
 ghost use Rattle.translator.specs.Emit.{terms, merges};
 ghost use Rattle.translator.specs.Writing.{Room, Puts, Summed};
@@ -35,7 +36,7 @@ fn put_terms(
     let mut left = k;
     while 0 < left {
         let next = q.next;
-        q = push(code, q, 3, 1, register, entry(&regs, m, at), 0);
+        q = push(code, q, operation(1, register, entry(&regs, m, at), 0));
         register = next;
         at += b;
         left -= 1;

@@ -1,4 +1,5 @@
 // The parts of a node's translation: before its first side, between its sides, behind its second; around an ondemand's body.
+use crate::instructions::skip;
 use crate::merge::put_merges;
 use crate::place::Progress;
 use crate::place::ascending;
@@ -128,7 +129,7 @@ pub fn put_skip(
     let xs = p.regs;
     let place = p.place;
     let over = body.instructions + body.outputs;
-    let then = push(code, place, 7, xs[0], over, 0, 0);
+    let then = push(code, place, skip(xs[0], over));
     Progress {
         regs: after(xs, 1),
         place: then,

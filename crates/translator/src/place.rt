@@ -3,16 +3,14 @@ ghost use mathlib.Core.Path.{_≡_};
 ghost use mathlib.Core.List.{[], _∷_};
 ghost use Prim.Native.Nat.{_+_, _≤_};
 ghost use lib.ListN.{take};
-ghost use Rattle.flat.specs.Flat.{instruction};
+ghost use Rattle.flat.specs.Steps.{listed};
 ghost use Rattle.translator.specs.Emit.{single, reads, writes, upFrom};
 ghost use Rattle.translator.specs.Writing.{Room, Written, Puts, onCells};
+use crate::instructions::on_cell;
 use beam::one;
-
-// The numbers of an instruction.
-pub const WIDTH: usize = 5;
-
-// The numbers before the first instruction.
-pub const HEADER: usize = 4;
+use flat::format::Instruction;
+use flat::format::WIDTH;
+use flat::format::put_instruction;
 
 // The next instruction: the register that it writes, and where it stands.
 pub struct Place {
@@ -27,16 +25,12 @@ pub struct Progress {
 }
 
 // One instruction.
-pub fn push(code: &mut [u32], p: Place, op: u32, a: u32, b: u32, c: u32, d: u32) -> Place
-    requires { ⌜ Room (instruction op a b c d ∷ []) p (now code) ⌝ }
-    ensures { λ r. ⌜ Written (instruction op a b c d ∷ []) p (now (code .entry)) r (now (code .exit)) ⌝ }
+pub fn push(code: &mut [u32], p: Place, x: Instruction) -> Place
+    requires { ⌜ Room (listed x ∷ []) p (now code) ⌝ }
+    ensures { λ r. ⌜ Written (listed x ∷ []) p (now (code .entry)) r (now (code .exit)) ⌝ }
 {
     let at = p.at;
-    code[at] = op;
-    code[at + 1] = a;
-    code[at + 2] = b;
-    code[at + 3] = c;
-    code[at + 4] = d;
+    put_instruction(code, at, x);
     Place {
         next: p.next + 1,
         at: at + WIDTH,
@@ -44,12 +38,12 @@ pub fn push(code: &mut [u32], p: Place, op: u32, a: u32, b: u32, c: u32, d: u32)
 }
 
 // One instruction whose register is a result.
-pub fn push_one(code: &mut [u32], p: Place, op: u32, a: u32, b: u32, c: u32, d: u32) -> Progress
-    requires { ⌜ Room (instruction op a b c d ∷ []) p (now code) ⌝ }
-    ensures { λ r. ⌜ Puts (single (instruction op a b c d) (p .next)) 1 p (now (code .entry)) r (now (code .exit)) ⌝ }
+pub fn push_one(code: &mut [u32], p: Place, x: Instruction) -> Progress
+    requires { ⌜ Room (listed x ∷ []) p (now code) ⌝ }
+    ensures { λ r. ⌜ Puts (single (listed x) (p .next)) 1 p (now (code .entry)) r (now (code .exit)) ⌝ }
 {
     let next = p.next;
-    let q = push(code, p, op, a, b, c, d);
+    let q = push(code, p, x);
     Progress {
         regs: one(next),
         place: q,
@@ -66,7 +60,7 @@ fn put_cells(code: &mut [u32], p: Place, op: u32, cell: u32, regs: [u32; 32], co
     let mut to = cell;
     let mut i: usize = 0;
     while i < count {
-        q = push(code, q, op, to, regs[i], 0, 0);
+        q = push(code, q, on_cell(op, to, regs[i]));
         to += 1;
         i += 1;
     }

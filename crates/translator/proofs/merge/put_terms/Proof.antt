@@ -27,8 +27,11 @@ slice-aggregate-entry c = search needs
 entry-requires : tie.Need-entry-requires Inv-loop μ-loop
 entry-requires c κs = search needs
 
+operation-requires : tie.Need-operation-requires Inv-loop μ-loop
+operation-requires c κs = search needs
+
 push-requires : tie.Need-push-requires Inv-loop μ-loop
-push-requires c κs = term-room _ _ _ _ _ (c .entry .ensures) (c .before .before .before .before .loop .left) (c .before .before .before .before .loop .inv .2) (omega arith)
+push-requires c κs = rw (c .operation .ensures) (term-room _ _ _ _ _ (c .before .entry .ensures) (c .before .before .before .before .before .loop .left) (c .before .before .before .before .before .loop .inv .2) (omega arith))
 
 add-at : tie.Need-add-at Inv-loop μ-loop
 add-at c = search needs
@@ -40,7 +43,7 @@ loop-less : tie.Need-loop-less Inv-loop μ-loop
 loop-less c = search needs
 
 loop-again : tie.Need-loop-again Inv-loop μ-loop
-loop-again c = (omega arith, omega arith, term-next _ _ _ _ _ (c .before .before .before .entry .ensures) (c .before .before .before .before .before .before .before .loop .left) (c .before .before .before .before .before .before .before .loop .inv .2) (omega arith) (c .before .before .push .ensures))
+loop-again c = (omega arith, omega arith, term-next _ _ _ _ _ (c .before .before .before .before .entry .ensures) (c .before .before .before .before .before .before .before .before .loop .left) (c .before .before .before .before .before .before .before .before .loop .inv .2) (omega arith) (rw (c .before .before .before .operation .ensures) at (c .before .before .push .ensures)))
 
 same-length : tie.Need-same-length Inv-loop μ-loop
 same-length c = same-room (c .before .loop .inv .2)
@@ -58,6 +61,7 @@ put-terms-spec =
     loop-holds
     slice-aggregate-entry
     entry-requires
+    operation-requires
     push-requires
     add-at
     sub-left

@@ -18,11 +18,14 @@ row-at-requires c κs = body-few (c .before .before .before .before .pre .0) (c 
 add-over : tie.Need-add-over
 add-over c = omega (arith, over-few (c .before .before .before .before .before .before .before .before .pre .0) (c .before .before .before .before .before .before .before .before .pre .1 .0) (c .before .before .before .before .index .ensures ∙ c .before .before .before .before .before .first-of .ensures) (c .before .before .before .row-at .ensures))
 
-array-read-push : tie.Need-array-read-push
-array-read-push c = search needs
+array-read-skip : tie.Need-array-read-skip
+array-read-skip c = search needs
+
+skip-requires : tie.Need-skip-requires
+skip-requires c κs = search needs
 
 push-requires : tie.Need-push-requires
-push-requires c κs = skip-fits (c .before .before .before .before .before .before .before .before .before .pre .0) (c .before .before .before .before .before .before .before .before .before .pre .1 .0) (c .before .before .before .before .before .index .ensures ∙ c .before .before .before .before .before .before .first-of .ensures) (c .before .before .before .before .row-at .ensures) (c .before .before .before .before .before .before .before .before .before .args .p) (c .before .before .before .before .before .before .before .before .before .pre .1 .1)
+push-requires c κs = rw (c .skip .ensures) (skip-fits (c .before .before .before .before .before .before .before .before .before .before .pre .0) (c .before .before .before .before .before .before .before .before .before .before .pre .1 .0) (c .before .before .before .before .before .before .index .ensures ∙ c .before .before .before .before .before .before .before .first-of .ensures) (c .before .before .before .before .before .row-at .ensures) (c .before .before .before .before .before .before .before .before .before .before .args .p) (c .before .before .before .before .before .before .before .before .before .before .pre .1 .1))
 
 after-requires : tie.Need-after-requires
 after-requires c κs = search needs
@@ -31,7 +34,7 @@ same-length : tie.Need-same-length
 same-length c = c .before .before .before .push .kept .0
 
 returns : tie.Need-returns
-returns c = skips (c .before .before .before .before .before .before .before .before .before .before .before .before .before .pre .0) (c .before .before .before .before .before .before .before .before .before .before .before .before .before .pre .1 .0) (c .before .before .before .before .before .before .before .before .before .index .ensures ∙ c .before .before .before .before .before .before .before .before .before .before .first-of .ensures) (c .before .before .before .before .before .before .before .before .row-at .ensures) (c .before .before .before .push .ensures) (c .after .ensures)
+returns c = skips (c .before .before .before .before .before .before .before .before .before .before .before .before .before .before .pre .0) (c .before .before .before .before .before .before .before .before .before .before .before .before .before .before .pre .1 .0) (c .before .before .before .before .before .before .before .before .before .before .index .ensures ∙ c .before .before .before .before .before .before .before .before .before .before .before .first-of .ensures) (c .before .before .before .before .before .before .before .before .before .row-at .ensures) (rw (c .before .before .before .before .skip .ensures) at (c .before .before .before .push .ensures)) (c .after .ensures)
 
 pub put-skip-spec : {M : Type 1} → statement M
 put-skip-spec =
@@ -41,7 +44,8 @@ put-skip-spec =
     index-requires
     row-at-requires
     add-over
-    array-read-push
+    array-read-skip
+    skip-requires
     push-requires
     after-requires
     same-length

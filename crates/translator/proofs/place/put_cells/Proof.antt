@@ -22,14 +22,17 @@ abbrev μ-loop : tie.MeasureT-loop
 loop-holds : tie.Need-loop-holds Inv-loop μ-loop
 loop-holds c = (omega arith, omega arith, start _ (c .before .pre .1))
 
-mul-push : tie.Need-mul-push Inv-loop μ-loop
-mul-push c = search needs
+mul-on-cell : tie.Need-mul-on-cell Inv-loop μ-loop
+mul-on-cell c = search needs
 
-array-read-push : tie.Need-array-read-push Inv-loop μ-loop
-array-read-push c = search needs
+array-read-on-cell : tie.Need-array-read-on-cell Inv-loop μ-loop
+array-read-on-cell c = search needs
+
+on-cell-requires : tie.Need-on-cell-requires Inv-loop μ-loop
+on-cell-requires c κs = search needs
 
 push-requires : tie.Need-push-requires Inv-loop μ-loop
-push-requires c κs = cell-room _ _ _ _ _ (c .before .loop-test .taken) (c .before .before .before .before .pre .0 .0) (c .before .before .before .before .good .1 .1 .1 .1 .0 .1 .0 .1) (c .before .before .loop .inv .2)
+push-requires c κs = rw (c .on-cell .ensures) (cell-room _ _ _ _ _ (c .before .before .loop-test .taken) (c .before .before .before .before .before .pre .0 .0) (c .before .before .before .before .before .good .1 .1 .1 .1 .0 .1 .0 .1) (c .before .before .before .loop .inv .2))
 
 add-to : tie.Need-add-to Inv-loop μ-loop
 add-to c = search needs
@@ -41,7 +44,7 @@ loop-less : tie.Need-loop-less Inv-loop μ-loop
 loop-less c = search needs
 
 loop-again : tie.Need-loop-again Inv-loop μ-loop
-loop-again c = (omega arith, omega arith, cell-next _ _ _ _ _ (c .before .before .before .before .loop-test .taken) (c .before .before .before .before .before .before .before .pre .0 .0) (c .before .before .before .before .before .before .before .good .1 .1 .1 .1 .0 .1 .0 .1) (c .before .before .before .before .before .loop .inv .2) (c .before .before .push .ensures))
+loop-again c = (omega arith, omega arith, cell-next _ _ _ _ _ (c .before .before .before .before .before .loop-test .taken) (c .before .before .before .before .before .before .before .before .pre .0 .0) (c .before .before .before .before .before .before .before .before .good .1 .1 .1 .1 .0 .1 .0 .1) (c .before .before .before .before .before .before .loop .inv .2) (rw (c .before .before .before .on-cell .ensures) at (c .before .before .push .ensures)))
 
 same-length : tie.Need-same-length Inv-loop μ-loop
 same-length c = same-room (c .before .loop .inv .2)
@@ -56,8 +59,9 @@ put-cells-spec =
     Inv-loop
     μ-loop
     loop-holds
-    mul-push
-    array-read-push
+    mul-on-cell
+    array-read-on-cell
+    on-cell-requires
     push-requires
     add-to
     add-i
