@@ -6,6 +6,7 @@ use mathlib.Core.List.{List, [], _∷_}
 use lib.ListN.{length}
 use lib.Dec.{eqb, leb, ltb}
 use Rattle.word.specs.Choice.{pick}
+use Rattle.word.specs.Limits.{mostNodes, widest, lastSlot, longestDelay}
 use Rattle.word.specs.Operation.{operands}
 use Rattle.refusal.specs.Answer.{Answer, refusedAt, refusalOf}
 use Rattle.refusal.specs.Answer.Answer.{counts}
@@ -24,9 +25,9 @@ knownKind kind = leb 1 kind && leb kind 12
 -- value may be any, and the fields of children are for 6
 abbrev pub firstInRange : ℕ → ℕ → Bool
 firstInRange kind first =
-    pick (eqb kind 2) (leb first 15)
+    pick (eqb kind 2) (leb first lastSlot)
     (pick (eqb kind 3) (ltb 0 (operands first))
-    (pick (eqb kind 4) (leb first 4095)
+    (pick (eqb kind 4) (leb first longestDelay)
     (pick (eqb kind 5) (eqb first 0)
     (pick (eqb kind 6) (eqb first 0) true))))
 
@@ -76,7 +77,7 @@ ruleFits table i =
 
 -- 8: "inputs or outputs above 32"
 abbrev pub narrow : Tree → Bool
-narrow x = leb (ins x) 32 && leb (outs x) 32
+narrow x = leb (ins x) widest && leb (outs x) widest
 
 -- "At one node the rows are taken downwards": the number of the first that refuses node i, 0 where none does
 unfoldable pub refusalAt : List ℕ → ℕ → ℕ
@@ -121,7 +122,7 @@ uneven table = eqb (length table) 0 || not (eqb (length table % 3) 0)
 unfoldable pub checked : List ℕ → Answer
 checked table =
     pick (uneven table) (refusedAt 3 0)
-    (pick (ltb 512 (nodes table)) (refusedAt 3 512)
+    (pick (ltb mostNodes (nodes table)) (refusedAt 3 mostNodes)
     (pick (ltb (firstRefused table) (nodes table)) (refusedAt (refusalAt table (firstRefused table)) (firstRefused table))
     (pick (ltb (firstLoose table) (nodes table)) (refusedAt 9 (firstLoose table))
     (report table))))

@@ -4,6 +4,7 @@ use mathlib.Core.Path.{_≡_}
 use mathlib.Core.Logic.{_⊎_}
 use mathlib.Core.List.{List}
 use lib.ListN.{length}
+use Rattle.word.specs.Limits.{mostNodes, widest, lastSlot, longestDelay}
 use Rattle.word.specs.Operation.{operands}
 use Rattle.arity.specs.Tree.{Tree}
 use Rattle.arity.specs.Table.{kindAt, firstAt, secondAt, nodes, tree}
@@ -25,9 +26,9 @@ pub record Children (table : List ℕ) (i : ℕ) : Type 0 where
 
 -- the fields of a node, by its kind; "Unused fields are 0."
 pub record Fields (kind first second : ℕ) : Type 0 where
-  pub control : kind ≡ 2 → first ≤ 15
+  pub control : kind ≡ 2 → first ≤ lastSlot
   pub operation : kind ≡ 3 → 0 < operands first
-  pub delay : kind ≡ 4 → first ≤ 4095
+  pub delay : kind ≡ 4 → first ≤ longestDelay
   pub cable : kind ≡ 5 → first ≡ 0
   pub cut : kind ≡ 6 → first ≡ 0
   pub unused : (7 ≤ kind → kind ≤ 11 → ⊥) → second ≡ 0
@@ -36,7 +37,7 @@ pub record Fields (kind first second : ℕ) : Type 0 where
 pub record Formed (table : List ℕ) : Type 0 where
   pub whole : 3 * nodes table ≡ length table
   pub least : 1 ≤ nodes table
-  pub most : nodes table ≤ 512
+  pub most : nodes table ≤ mostNodes
   pub kinds : (i : ℕ) → i < nodes table → (1 ≤ kindAt table i) × (kindAt table i ≤ 12)
   pub fields : (i : ℕ) → i < nodes table → Fields (kindAt table i) (firstAt table i) (secondAt table i)
   pub children : (i : ℕ) → i < nodes table → Children table i
@@ -44,7 +45,7 @@ pub record Formed (table : List ℕ) : Type 0 where
 
 -- the published rules count the inputs and outputs of a tree, none above 32
 abbrev pub Counted : Tree → Type 0
-Counted x = (a : ℕ) × (b : ℕ) × Arity x a b × (a ≤ 32) × (b ≤ 32)
+Counted x = (a : ℕ) × (b : ℕ) × Arity x a b × (a ≤ widest) × (b ≤ widest)
 
 -- and those of each node of a table
 abbrev pub Fitting : List ℕ → Type 0

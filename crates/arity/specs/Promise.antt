@@ -6,6 +6,7 @@ use Prim.Native.Nat.{ℕ, _+_, _*_, _≤_, _<_}
 use mathlib.Core.Path.{_≡_}
 use mathlib.Core.List.{List, [], _∷_}
 use lib.ListN.{length}
+use Rattle.word.specs.Limits.{mostNodes, widest, controlCount, longestDelay, mostInstructions, mostCells}
 use Rattle.word.specs.Operation.{operands}
 use Rattle.word.specs.Tick.{Words}
 use Rattle.refusal.specs.Answer.Answer.{counts}
@@ -16,23 +17,23 @@ use Rattle.arity.specs.Rules.{Arity}
 use Rattle.arity.specs.WellFormed.{Times, WellFormed}
 use Rattle.arity.specs.Nodes.{Complete, subtree, cellsBefore}
 use Rattle.arity.specs.Check.{checked, IsAccepted}
-use Rattle.arity.specs.Survey.{rowAt, surveyed}
+use Rattle.arity.specs.Survey.{shapeNumbers, rowAt, surveyed}
 
 -- refusals 8, 10 and 11 of a circuit of n nodes do not apply
 pub record Small (n : ℕ) (t : Tree) : Type 0 where
-  pub inputs : ins t ≤ 32
-  pub outputs : outs t ≤ 32
-  pub instructions : need t ≤ 2048
-  pub cells : cellsBefore t n ≤ 16384
+  pub inputs : ins t ≤ widest
+  pub outputs : outs t ≤ widest
+  pub instructions : need t ≤ mostInstructions
+  pub cells : cellsBefore t n ≤ mostCells
 
 -- node i of a table: its fields, its tree, the rule of its kind in the counts of its sides, and where its cells stand
 pub record Node (table : List ℕ) (i : ℕ) : Type 0 where
   pub inside : 3 * i + 3 ≤ length table
   pub least : 1 ≤ kindAt table i
   pub most : kindAt table i ≤ 12
-  pub control : kindAt table i ≡ 2 → firstAt table i < 16
+  pub control : kindAt table i ≡ 2 → firstAt table i < controlCount
   pub operation : kindAt table i ≡ 3 → 0 < operands (firstAt table i)
-  pub delay : kindAt table i ≡ 4 → firstAt table i ≤ 4095
+  pub delay : kindAt table i ≡ 4 → firstAt table i ≤ longestDelay
   pub left : 7 ≤ kindAt table i → firstAt table i < i
   -- an ondemand's second field is 0, so it is lower too
   pub right : 7 ≤ kindAt table i → secondAt table i < i
@@ -47,8 +48,8 @@ pub record Node (table : List ℕ) (i : ℕ) : Type 0 where
   pub merge : kindAt table i ≡ 10 → Times (ins (tree table (secondAt table i))) (outs (tree table (firstAt table i)))
   pub recursion : kindAt table i ≡ 11
       → (ins (tree table (secondAt table i)) ≤ outs (tree table (firstAt table i))) × (outs (tree table (secondAt table i)) ≤ ins (tree table (firstAt table i)))
-  pub inputs : ins (tree table i) ≤ 32
-  pub outputs : outs (tree table i) ≤ 32
+  pub inputs : ins (tree table i) ≤ widest
+  pub outputs : outs (tree table i) ≤ widest
   pub instructions : need (tree table i) ≤ need (circuit table)
   pub cells : cellsBefore (circuit table) i + size (tree table i) ≤ cellsBefore (circuit table) (nodes table)
   pub part : subtree (circuit table) i ≡ tree table i
@@ -57,14 +58,14 @@ pub record Node (table : List ℕ) (i : ℕ) : Type 0 where
 pub record Promise (table : List ℕ) (inputs outputs instructions cells : ℕ) : Type 0 where
   pub whole : 3 * nodes table ≡ length table
   pub least : 1 ≤ nodes table
-  pub most : nodes table ≤ 512
+  pub most : nodes table ≤ mostNodes
   pub arity : Arity (circuit table) inputs outputs
   pub counted : (inputs ≡ ins (circuit table)) × (outputs ≡ outs (circuit table)) × (instructions ≡ need (circuit table))
   pub celled : cells ≡ cellsBefore (circuit table) (nodes table)
   pub modest : (instructions ≤ 65536) × (cells ≤ 2097152)
   pub wellFormed : WellFormed (circuit table)
   pub complete : Complete (nodes table) (circuit table)
-  pub small : instructions ≤ 2048 → cells ≤ 16384 → Small (nodes table) (circuit table)
+  pub small : instructions ≤ mostInstructions → cells ≤ mostCells → Small (nodes table) (circuit table)
   pub node : (i : ℕ) → i < nodes table → Node table i
 
 -- an accepted table keeps the promise; its entries are words
@@ -83,4 +84,4 @@ pub record Shaped (table shape : List ℕ) (i : ℕ) : Type 0 where
   pub cell : rowAt shape i .cell ≡ cellsBefore (circuit table) i
 
 abbrev pub Rows : (t s s′ : List ℕ) → Type 0
-Rows t s s′ = IsAccepted t → length s ≡ 2048 → s′ ≡ surveyed t s → (i : ℕ) → i < nodes t → Shaped t s′ i
+Rows t s s′ = IsAccepted t → length s ≡ shapeNumbers → s′ ≡ surveyed t s → (i : ℕ) → i < nodes t → Shaped t s′ i

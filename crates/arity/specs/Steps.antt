@@ -6,12 +6,13 @@ use mathlib.Core.List.{List}
 use lib.ListN.{length, getD, set}
 use lib.Dec.{eqb, leb, ltb}
 use Rattle.word.specs.Choice.{pick, bit}
+use Rattle.word.specs.Limits.{mostNodes, widest}
 use Rattle.refusal.specs.Answer.{Answer, refusalOf, refusedAt}
 use Rattle.arity.specs.Tree.{Tree, ins, outs, size, need}
 use Rattle.arity.specs.Tree.Tree.{join, ondemand}
 use Rattle.arity.specs.Table.{kindAt, firstAt, secondAt, nodes, tree, compositionOf}
 use Rattle.arity.specs.Check.{firstInRange, secondInRange, taken, rule, refusalAt, firstCell}
-use Rattle.arity.specs.Survey.{rowFor, rowOf, rowAt, putRow}
+use Rattle.arity.specs.Survey.{shapeNumbers, rowFor, rowOf, rowAt, putRow}
 use Rattle.arity.specs.declared.counts.Counts.{Counts}
 use Rattle.arity.specs.declared.rows.Row.{Row}
 use Rattle.arity.specs.declared.node.Judged.{Judged}
@@ -37,8 +38,8 @@ Joins kind l r n = (i c d : ℕ) (x y : Tree) → l ≡ rowFor x c → r ≡ row
 
 -- rows whose numbers are small, and sides that the rule of the kind fits
 pub record Modest (r : Row) : Type 0 where
-  pub inputs : r .inputs ≤ 32
-  pub outputs : r .outputs ≤ 32
+  pub inputs : r .inputs ≤ widest
+  pub outputs : r .outputs ≤ widest
   pub instructions : r .instructions ≤ 100000
 
 pub record Joinable (kind : ℕ) (l r : Row) : Type 0 where
@@ -50,12 +51,12 @@ pub record Joinable (kind : ℕ) (l r : Row) : Type 0 where
 
 -- the survey before node i: no node was refused, each has its row, and each child its mark
 pub record State (table shape marks : List ℕ) (i : ℕ) : Type 0 where
-  pub most : nodes table ≤ 512
-  pub room : length shape ≡ 2048
-  pub long : length marks ≡ 512
+  pub most : nodes table ≤ mostNodes
+  pub room : length shape ≡ shapeNumbers
+  pub long : length marks ≡ mostNodes
   pub right : (j : ℕ) → j < i → refusalAt table j ≡ 0
   pub rows : (j : ℕ) → j < i → rowAt shape j ≡ rowOf table j
-  pub marked : (c : ℕ) → c < 512 → getD marks c 0 ≡ bit (taken table i c)
+  pub marked : (c : ℕ) → c < mostNodes → getD marks c 0 ≡ bit (taken table i c)
 
 -- refusal 6 by the marks
 abbrev pub freeIn : List ℕ → ℕ → ℕ → Bool

@@ -4,10 +4,14 @@ use mathlib.Core.List.{List}
 use lib.ListN.{getD, set}
 use lib.Dec.{ltb}
 use Rattle.word.specs.Choice.{pick}
+use Rattle.word.specs.Limits.{mostNodes}
 use Rattle.arity.specs.Tree.{Tree, ins, outs, need}
 use Rattle.arity.specs.Table.{nodes, tree}
 use Rattle.arity.specs.Check.{firstRefused, firstCell, uneven}
 use Rattle.arity.specs.declared.rows.Row.{Row}
+
+abbrev pub shapeNumbers : ℕ
+shapeNumbers = 4 * mostNodes
 
 -- the row of node j in a shape, four numbers a node
 abbrev pub rowAt : List ℕ → ℕ → Row
@@ -35,4 +39,4 @@ filled table (suc i) shape = putRow (filled table i shape) i (rowOf table i)
 
 -- what the survey makes of a shape: a row for each node before the first refused one, none where the count of nodes is wrong; the rest stays
 unfoldable pub surveyed : List ℕ → List ℕ → List ℕ
-surveyed table shape = filled table (pick (uneven table) 0 (pick (ltb 512 (nodes table)) 0 (firstRefused table))) shape
+surveyed table shape = filled table (pick (uneven table) 0 (pick (ltb mostNodes (nodes table)) 0 (firstRefused table))) shape

@@ -1,6 +1,7 @@
 -- Which trees are circuits: the arity rules as tests of the counted inputs and outputs, and the ranges of the fields.
 use Prim.Native.Nat.{ℕ, _*_, _≤_, _<_, _^_}
 use mathlib.Core.Path.{_≡_}
+use Rattle.word.specs.Limits.{controlCount, longestDelay}
 use Rattle.word.specs.Operation.{operands}
 use Rattle.arity.specs.Tree.{Tree, Primitive, Composition, ins, outs}
 use Rattle.arity.specs.Tree.Tree.{leaf, join, ondemand}
@@ -14,9 +15,9 @@ Times b n = (k : ℕ) × (1 ≤ k) × (k * b ≡ n)
 -- the used fields are in range
 abbrev pub Known : Primitive → Type 0
 Known (number v) = v < 2 ^ 32
-Known (control s) = s < 16
+Known (control s) = s < controlCount
 Known (operation o) = 0 < operands o
-Known (delay d) = d ≤ 4095
+Known (delay d) = d ≤ longestDelay
 Known cable = Unit {0}
 Known cut = Unit {0}
 

@@ -1,12 +1,14 @@
 // Refusals 6 and 9: which nodes are taken, one mark a node.
+use word::limits::NODES;
 ghost use mathlib.Core.Path.{_≡_};
 ghost use Prim.Native.Nat.{_≤_, _<_};
+ghost use Rattle.word.specs.Limits.{mostNodes};
 ghost use Rattle.arity.specs.Lowest.{lowest};
 ghost use Rattle.arity.specs.Steps.{freeIn, childrenIn, marking, looseIn};
 
 // A child is lower, and no node before has it.
-fn is_free(marks: &[u32; 512], node: usize, child: usize) -> bool
-    requires { ⌜ node ≤ 512 ⌝ }
+fn is_free(marks: &[u32; NODES], node: usize, child: usize) -> bool
+    requires { ⌜ node ≤ mostNodes ⌝ }
     ensures { λ r. ⌜ r ≡ freeIn (now (marks .entry)) node child ⌝ }
 {
     if child < node {
@@ -16,8 +18,14 @@ fn is_free(marks: &[u32; 512], node: usize, child: usize) -> bool
 }
 
 // Refusal 6 for a node with children.
-pub fn children_free(kind: u32, marks: &[u32; 512], node: usize, left: usize, right: usize) -> bool
-    requires { ⌜ node ≤ 512 ⌝ }
+pub fn children_free(
+    kind: u32,
+    marks: &[u32; NODES],
+    node: usize,
+    left: usize,
+    right: usize,
+) -> bool
+    requires { ⌜ node ≤ mostNodes ⌝ }
     ensures { λ r. ⌜ r ≡ childrenIn kind (now (marks .entry)) node left right ⌝ }
 {
     if 11 < kind {
@@ -33,9 +41,9 @@ pub fn children_free(kind: u32, marks: &[u32; 512], node: usize, left: usize, ri
 }
 
 // Mark the children of a node.
-pub fn mark(kind: u32, marks: &mut [u32; 512], left: usize, right: usize)
-    requires { ⌜ (7 ≤ kind → left < 512) ⌝ }
-    requires { ⌜ (7 ≤ kind → kind ≤ 11 → right < 512) ⌝ }
+pub fn mark(kind: u32, marks: &mut [u32; NODES], left: usize, right: usize)
+    requires { ⌜ (7 ≤ kind → left < mostNodes) ⌝ }
+    requires { ⌜ (7 ≤ kind → kind ≤ 11 → right < mostNodes) ⌝ }
     ensures { λ _. ⌜ now (marks .exit) ≡ marking kind left right (now (marks .entry)) ⌝ }
 {
     if kind <= 6 {
@@ -48,8 +56,8 @@ pub fn mark(kind: u32, marks: &mut [u32; 512], left: usize, right: usize)
 }
 
 // The first of n nodes but the last that is not marked; n where there is none.
-pub fn find_loose(marks: &[u32; 512], n: usize) -> usize
-    requires { ⌜ n ≤ 512 ⌝ }
+pub fn find_loose(marks: &[u32; NODES], n: usize) -> usize
+    requires { ⌜ n ≤ mostNodes ⌝ }
     ensures { λ r. ⌜ r ≡ lowest (looseIn (now (marks .entry)) n) n 0 ⌝ }
 {
     let mut i: usize = 0;

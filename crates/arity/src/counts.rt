@@ -2,6 +2,7 @@
 use super::rows::Row;
 ghost use mathlib.Core.Path.{_≡_};
 ghost use Prim.Native.Nat.{_≤_};
+ghost use Rattle.word.specs.Limits.{longestDelay};
 ghost use Rattle.arity.specs.Tree.{leaf};
 ghost use Rattle.arity.specs.Table.{primitiveOf};
 ghost use Rattle.arity.specs.Steps.{countsOf, Joins, Joinable};
@@ -16,7 +17,7 @@ pub struct Counts {
 
 // A node without children.
 pub fn leaf_counts(kind: u32, first: u32) -> Counts
-    requires { ⌜ (1 ≤ kind) × (kind ≤ 6) × (kind ≡ 4 → first ≤ 4095) ⌝ }
+    requires { ⌜ (1 ≤ kind) × (kind ≤ 6) × (kind ≡ 4 → first ≤ longestDelay) ⌝ }
     ensures { λ r. ⌜ r ≡ countsOf (leaf 0 (primitiveOf kind first)) ⌝ }
 {
     if kind == 3 {

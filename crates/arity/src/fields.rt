@@ -1,4 +1,6 @@
 // The three fields of a node, and their ranges.
+use word::limits::LAST_SLOT;
+use word::limits::LONGEST_DELAY;
 ghost use mathlib.Core.Path.{_≡_};
 ghost use Prim.Native.Nat.{_<_};
 ghost use Rattle.arity.specs.Table.{nodes, kindAt, firstAt, secondAt};
@@ -30,13 +32,13 @@ pub fn first_in_range(kind: u32, first: u32) -> bool
     ensures { λ r. ⌜ r ≡ firstInRange kind first ⌝ }
 {
     if kind == 2 {
-        return first <= 15;
+        return first <= LAST_SLOT;
     }
     if kind == 3 {
         return 0 < word::operands(first);
     }
     if kind == 4 {
-        return first <= 4095;
+        return first <= LONGEST_DELAY;
     }
     if kind == 5 {
         return first == 0;

@@ -10,11 +10,14 @@ use children::find_loose;
 use node::Stepped;
 use node::step;
 use refusal::Refusal;
+use rows::SHAPE;
 use rows::row_at;
+use word::limits::MOST_NODES;
+use word::limits::NODES;
 ghost use mathlib.Core.Path.{_≡_};
 ghost use lib.ListN.{length};
 ghost use Rattle.arity.specs.Check.{answerOf, checked};
-ghost use Rattle.arity.specs.Survey.{surveyed};
+ghost use Rattle.arity.specs.Survey.{shapeNumbers, surveyed};
 
 pub enum CheckAnswer {
     Accepted {
@@ -27,8 +30,8 @@ pub enum CheckAnswer {
 }
 
 // The check, which leaves in `shape` four numbers for each node up to the first refused one: inputs, outputs, instructions and first cell.
-pub fn survey(table: &[u32], shape: &mut [u32; 2048]) -> CheckAnswer
-    requires { ⌜ length (now shape) ≡ 2048 ⌝ }
+pub fn survey(table: &[u32], shape: &mut [u32; SHAPE]) -> CheckAnswer
+    requires { ⌜ length (now shape) ≡ shapeNumbers ⌝ }
     ensures answer { λ r. ⌜ answerOf r ≡ checked (now (table .entry)) ⌝ }
     ensures rows { λ r. ⌜ now (shape .exit) ≡ surveyed (now (table .entry)) (now (shape .entry)) ⌝ }
 {
@@ -40,10 +43,10 @@ pub fn survey(table: &[u32], shape: &mut [u32; 2048]) -> CheckAnswer
         return CheckAnswer::Refused(Refusal::WrongNodeCount(0));
     }
     let n = count / 3;
-    if 512 < n {
-        return CheckAnswer::Refused(Refusal::WrongNodeCount(512));
+    if NODES < n {
+        return CheckAnswer::Refused(Refusal::WrongNodeCount(MOST_NODES));
     }
-    let mut marks = [0u32; 512];
+    let mut marks = [0u32; NODES];
     let mut cells: u32 = 0;
     let mut i: usize = 0;
     while i < n {
@@ -73,6 +76,6 @@ pub fn survey(table: &[u32], shape: &mut [u32; 2048]) -> CheckAnswer
 pub fn check(table: &[u32]) -> CheckAnswer
     ensures { λ r. ⌜ answerOf r ≡ checked (now (table .entry)) ⌝ }
 {
-    let mut shape = [0u32; 2048];
+    let mut shape = [0u32; SHAPE];
     survey(table, &mut shape)
 }

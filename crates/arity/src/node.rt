@@ -13,8 +13,11 @@ use super::rows::Row;
 use super::rows::put_row;
 use super::rows::row_at;
 use super::rules::rule_fits;
+use crate::rows::SHAPE;
 use refusal::Refusal;
 use word::index;
+use word::limits::NODES;
+use word::limits::WIDEST;
 ghost use mathlib.Core.Path.{_≡_};
 ghost use Prim.Native.Nat.{_<_};
 ghost use Rattle.arity.specs.Table.{nodes};
@@ -34,7 +37,7 @@ pub enum Stepped {
 }
 
 // Refusals 6 to 8 of a node with children, whose kind and fields are right.
-fn judge_children(table: &[u32], shape: &[u32; 2048], marks: &[u32; 512], node: usize) -> Judged
+fn judge_children(table: &[u32], shape: &[u32; SHAPE], marks: &[u32; NODES], node: usize) -> Judged
     requires { ⌜ State (now table) (now shape) (now marks) node ⌝ }
     requires { ⌜ Branching (now table) node ⌝ }
     ensures { λ r. ⌜ Judges (now (table .entry)) node r ⌝ }
@@ -52,17 +55,17 @@ fn judge_children(table: &[u32], shape: &[u32; 2048], marks: &[u32; 512], node: 
         return Judged::Wrong(Refusal::NoArityRule(place));
     }
     let n = joint_counts(kind, l, r);
-    if 32 < n.inputs {
+    if WIDEST < n.inputs {
         return Judged::Wrong(Refusal::TooWide(place));
     }
-    if 32 < n.outputs {
+    if WIDEST < n.outputs {
         return Judged::Wrong(Refusal::TooWide(place));
     }
     Judged::Right(n)
 }
 
 // The first refusal of a node, or its counts.
-fn judge(table: &[u32], shape: &[u32; 2048], marks: &[u32; 512], node: usize) -> Judged
+fn judge(table: &[u32], shape: &[u32; SHAPE], marks: &[u32; NODES], node: usize) -> Judged
     requires { ⌜ State (now table) (now shape) (now marks) node ⌝ }
     requires { ⌜ node < nodes (now table) ⌝ }
     ensures { λ r. ⌜ Judges (now (table .entry)) node r ⌝ }
@@ -92,8 +95,8 @@ fn judge(table: &[u32], shape: &[u32; 2048], marks: &[u32; 512], node: usize) ->
 // Judge a node, put its row, and mark its children.
 pub fn step(
     table: &[u32],
-    shape: &mut [u32; 2048],
-    marks: &mut [u32; 512],
+    shape: &mut [u32; SHAPE],
+    marks: &mut [u32; NODES],
     node: usize,
     cell: u32,
 ) -> Stepped

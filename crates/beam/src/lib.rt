@@ -1,17 +1,19 @@
 // Beams by value: of the 32 places of an array the first so many count, and the rest is whatever it is.
 use word::add;
+use word::limits::BEAM;
 ghost use mathlib.Core.Path.{_≡_};
 ghost use mathlib.Core.List.{[], _∷_, _++_};
 ghost use Prim.Native.Nat.{ℕ, _+_, _-_, _*_, _≤_};
 ghost use lib.ListN.{length, getD, take, drop};
+ghost use Rattle.word.specs.Limits.{widest};
 ghost use Rattle.signal.specs.Signal.{copies, sumFrom, sums};
 ghost use Rattle.cells.specs.Cells.{part, store};
 
 // One signal.
-pub fn one(x: u32) -> [u32; 32]
+pub fn one(x: u32) -> [u32; BEAM]
     ensures { λ r. ⌜ take 1 r ≡ x ∷ [] ⌝ }
 {
-    let mut r = [0u32; 32];
+    let mut r = [0u32; BEAM];
     r[0] = x;
     r
 }
@@ -30,8 +32,8 @@ pub fn entry(a: &[u32], n: usize, at: usize) -> u32
 }
 
 // The first n of a, then the first m of b.
-pub fn joined(a: [u32; 32], n: usize, b: [u32; 32], m: usize) -> [u32; 32]
-    requires { ⌜ n + m ≤ 32 ⌝ }
+pub fn joined(a: [u32; BEAM], n: usize, b: [u32; BEAM], m: usize) -> [u32; BEAM]
+    requires { ⌜ n + m ≤ widest ⌝ }
     ensures { λ r. ⌜ take (n + m) r ≡ take n a ++ take m b ⌝ }
 {
     let mut r = a;
@@ -44,13 +46,13 @@ pub fn joined(a: [u32; 32], n: usize, b: [u32; 32], m: usize) -> [u32; 32]
 }
 
 // What comes after the first n of a.
-pub fn after(a: [u32; 32], n: usize) -> [u32; 32]
-    requires { ⌜ n ≤ 32 ⌝ }
-    ensures { λ r. ⌜ take (32 - n) r ≡ drop n a ⌝ }
+pub fn after(a: [u32; BEAM], n: usize) -> [u32; BEAM]
+    requires { ⌜ n ≤ widest ⌝ }
+    ensures { λ r. ⌜ take (widest - n) r ≡ drop n a ⌝ }
 {
     let mut r = a;
     let mut i: usize = 0;
-    while n + i < 32 {
+    while n + i < BEAM {
         r[i] = a[n + i];
         i += 1;
     }
@@ -58,8 +60,8 @@ pub fn after(a: [u32; 32], n: usize) -> [u32; 32]
 }
 
 // The first b of a again and again, n in all.
-pub fn repeated(a: [u32; 32], b: usize, n: usize) -> [u32; 32]
-    requires { ⌜ (b ≤ 32) × (n ≤ 32) ⌝ }
+pub fn repeated(a: [u32; BEAM], b: usize, n: usize) -> [u32; BEAM]
+    requires { ⌜ (b ≤ widest) × (n ≤ widest) ⌝ }
     ensures { λ r. ⌜ ((k : ℕ) → k * b ≡ n → take n r ≡ copies k (take b a)) ⌝ }
 {
     let mut r = a;
@@ -73,7 +75,7 @@ pub fn repeated(a: [u32; 32], b: usize, n: usize) -> [u32; 32]
 
 // acc and k more of the first m of a, b apart from `at` on, added up.
 fn sum(a: &[u32], m: usize, k: usize, b: usize, acc: u32, at: usize) -> u32
-    requires { ⌜ (k ≤ 32) × (b ≤ 32) × (at ≤ 64) ⌝ }
+    requires { ⌜ (k ≤ widest) × (b ≤ widest) × (at ≤ 64) ⌝ }
     ensures { λ r. ⌜ r ≡ sumFrom k b acc at (take m (now (a .entry))) ⌝ }
 {
     let mut total = acc;
@@ -88,8 +90,8 @@ fn sum(a: &[u32], m: usize, k: usize, b: usize, acc: u32, at: usize) -> u32
 }
 
 // The first m of a added onto b: output i, i+b, i+2b and so on.
-pub fn merged(a: [u32; 32], m: usize, b: usize) -> [u32; 32]
-    requires { ⌜ (b ≤ m) × (m ≤ 32) ⌝ }
+pub fn merged(a: [u32; BEAM], m: usize, b: usize) -> [u32; BEAM]
+    requires { ⌜ (b ≤ m) × (m ≤ widest) ⌝ }
     ensures { λ r. ⌜ take b r ≡ sums m b (take m a) ⌝ }
 {
     if b == 0 {
@@ -107,11 +109,11 @@ pub fn merged(a: [u32; 32], m: usize, b: usize) -> [u32; 32]
 }
 
 // The n cells from base on.
-pub fn fetched(cells: &[u32], base: usize, n: usize) -> [u32; 32]
-    requires { ⌜ (n ≤ 32) × (base + n ≤ length (now cells)) ⌝ }
+pub fn fetched(cells: &[u32], base: usize, n: usize) -> [u32; BEAM]
+    requires { ⌜ (n ≤ widest) × (base + n ≤ length (now cells)) ⌝ }
     ensures { λ r. ⌜ take n r ≡ part base n (now (cells .entry)) ⌝ }
 {
-    let mut r = [0u32; 32];
+    let mut r = [0u32; BEAM];
     let mut i: usize = 0;
     while i < n {
         r[i] = cells[base + i];
@@ -121,8 +123,8 @@ pub fn fetched(cells: &[u32], base: usize, n: usize) -> [u32; 32]
 }
 
 // The first n of a into the cells from base on.
-pub fn keep(cells: &mut [u32], base: usize, n: usize, a: [u32; 32])
-    requires { ⌜ (n ≤ 32) × (base + n ≤ length (now cells)) ⌝ }
+pub fn keep(cells: &mut [u32], base: usize, n: usize, a: [u32; BEAM])
+    requires { ⌜ (n ≤ widest) × (base + n ≤ length (now cells)) ⌝ }
     ensures { λ _. ⌜ now (cells .exit) ≡ store base (take n a) (now (cells .entry)) ⌝ }
 {
     let mut i: usize = 0;

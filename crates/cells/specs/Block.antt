@@ -5,6 +5,7 @@ use mathlib.Core.List.{List, [], _∷_, _++_}
 use lib.ListN.{length, drop, take}
 use lib.Dec.{eqb, leb}
 use Rattle.word.specs.Choice.{pick, _and_}
+use Rattle.word.specs.Limits.{controlCount, mostTicks}
 use Rattle.word.specs.Tick.{Tick, tick, Stepped, stepped, headOr}
 use Rattle.refusal.specs.Answer.{Answer, count, refusedAll}
 use Rattle.refusal.specs.Answer.Answer.{counts, refused}
@@ -46,7 +47,7 @@ played g (f ∷ fs) cs =
 
 -- row 14 does not apply to a call for n inputs: "ticks not 0 to 4,096; inputs not ticks × n; controls not 16"
 abbrev pub blockOk : ℕ → ℕ → List ℕ → List ℕ → Bool
-blockOk n ticks inputs controls = leb ticks 4096 and eqb (length inputs) (ticks * n) and eqb (length controls) 16
+blockOk n ticks inputs controls = leb ticks mostTicks and eqb (length inputs) (ticks * n) and eqb (length controls) controlCount
 
 -- a call that is not refused, of n inputs, m outputs and k cells, each tick worked by g; "a buffer longer than needed keeps its content past the
 -- needed part"

@@ -4,6 +4,7 @@ use mathlib.Core.List.{List, _++_}
 use lib.ListN.{length, drop}
 use lib.Dec.{leb}
 use Rattle.word.specs.Choice.{pick}
+use Rattle.word.specs.Limits.{mostCells}
 use Rattle.word.specs.Tick.{zeros}
 use Rattle.refusal.specs.Answer.{Answer, count, refusedAll, refusalOf}
 use Rattle.refusal.specs.Outcome.{Outcome, outcome}
@@ -18,7 +19,7 @@ answerOf (Refused r) = refusalOf r
 -- the complete result of a load: "Load: 11, 12"; a refusal changes nothing
 unfoldable pub loaded : ℕ → List ℕ → Outcome
 loaded named cells =
-    pick (leb named 16384)
+    pick (leb named mostCells)
     (pick (leb named (length cells))
     (outcome (count named) (zeros named ++ drop named cells))
     (outcome (refusedAll 12) cells))

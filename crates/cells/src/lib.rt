@@ -1,10 +1,14 @@
 // Cells: the memory of a circuit between ticks. A delay's line is a position and a ring of d samples.
 use refusal::Refusal;
 use word::index;
+use word::limits::CELLS;
+use word::limits::CONTROLS;
+use word::limits::MOST_TICKS;
 ghost use mathlib.Core.Path.{_≡_};
 ghost use mathlib.Core.List.{_++_};
 ghost use Prim.Native.Nat.{_+_, _-_, _*_, _%_, _^_, _<_, _≤_};
 ghost use lib.ListN.{length, drop};
+ghost use Rattle.word.specs.Limits.{widest};
 ghost use Rattle.word.specs.Word.{clamp as clampOf};
 ghost use Rattle.word.specs.Tick.{zeros};
 ghost use Rattle.refusal.specs.Outcome.{outcome};
@@ -134,7 +138,7 @@ pub fn load(named: u32, cells: &mut [u32]) -> LoadAnswer
     ensures { λ r. ⌜ outcome (answerOf r) (now (cells .exit)) ≡ loaded named (now (cells .entry)) ⌝ }
 {
     let count = index(named);
-    if count > 16384 {
+    if count > CELLS {
         return LoadAnswer::Refused(Refusal::TooManyCells);
     }
     if count > cells.len() {
@@ -146,8 +150,8 @@ pub fn load(named: u32, cells: &mut [u32]) -> LoadAnswer
 
 // Does row 14 let a call pass that is for n inputs a tick?
 pub fn block_ok(n: u32, ticks: u32, inputs: &[u32], controls: &[u32]) -> bool
-    requires { ⌜ n ≤ 32 ⌝ }
+    requires { ⌜ n ≤ widest ⌝ }
     ensures { λ r. ⌜ r ≡ blockOk n ticks (now (inputs .entry)) (now (controls .entry)) ⌝ }
 {
-    ticks <= 4096 && (inputs.len() == index(ticks) * index(n) && controls.len() == 16)
+    ticks <= MOST_TICKS && (inputs.len() == index(ticks) * index(n) && controls.len() == CONTROLS)
 }

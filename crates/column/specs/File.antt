@@ -5,11 +5,12 @@ use mathlib.Core.List.{List, [], _∷_, _++_, map}
 use mathlib.Core.Option.{Option, none}
 use lib.Dec.{eqb, ltb}
 use lib.ListN.{length, take, drop}
+use Rattle.word.specs.Limits.{mostNodes}
 use Rattle.refusal.specs.Answer.{Answer, count, refusedAt, refusedAll}
 use Rattle.refusal.specs.Outcome.{Outcome, outcome}
 use Rattle.word.specs.Word.{value}
 use Rattle.column.specs.Checks.{when, _or_, unless}
-use Rattle.column.specs.Line.{lineBytes, mostNodes, nodeLine, lines, entries, lineRefusal}
+use Rattle.column.specs.Line.{lineBytes, nodeLine, lines, entries, lineRefusal}
 
 -- "reading, line by line", from line i on
 abbrev pub linesRefusal : ℕ → List (List ℕ) → Option Answer

@@ -8,16 +8,13 @@ use lib.IntN.{ℤ, pos, negsuc}
 use lib.ListN.{length, getD, take, drop}
 use Rattle.refusal.specs.Answer.{Answer, refusedAt}
 use Rattle.word.specs.Choice.{pick, _and_}
+use Rattle.word.specs.Limits.{mostNodes}
 use Rattle.column.specs.Checks.{when, _or_}
 use Rattle.number.specs.Number.{column, numberIn, wordOf}
-use Rattle.number.specs.Row.{lineFeed, columns}
+use Rattle.number.specs.Row.{lineFeed, columnWidth, columns}
 
 abbrev pub lineBytes : ℕ
 lineBytes = 41
-
--- "It has 1 to 512 nodes"
-abbrev pub mostNodes : ℕ
-mostNodes = 512
 
 -- "20,993 bytes are enough": 512 lines and a byte of a 513th
 abbrev pub enoughBytes : ℕ
@@ -30,7 +27,7 @@ nodeLine i numbers = column 4 (pos i) ++ (columns numbers ++ (lineFeed ∷ []))
 -- column j of a line: the node number, then kind, first and second
 abbrev pub columnOf : ℕ → List ℕ → List ℕ
 columnOf zero l = take 4 l
-columnOf (suc j) l = take 12 (drop (4 + 12 * j) l)
+columnOf (suc j) l = take columnWidth (drop (4 + columnWidth * j) l)
 
 -- the three numbers of a line, as a table has them
 abbrev pub entries : List ℕ → List ℕ

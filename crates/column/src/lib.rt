@@ -2,17 +2,21 @@
 mod reader;
 mod writer;
 
+use number::COLUMN;
 pub use reader::read;
 use refusal::Refusal;
+use word::limits::NODES;
 pub use writer::write;
 
-// 4 columns, three times 12 and a line feed.
-const LINE_BYTES: usize = 41;
+// The column of the node number, three of COLUMN bytes and a line feed.
+const NODE_COLUMN: usize = 4;
 
-// A table has 1 to 512 nodes, and a file as many lines.
-const MOST_NODES: usize = 512;
+const LINE_BYTES: usize = NODE_COLUMN + 3 * COLUMN + 1;
 
-const MOST_LINES: u32 = 512;
+// The numbers of the largest table, and the bytes of a file that are enough: its lines, and a byte of one too many.
+pub const TABLE_NUMBERS: usize = 3 * NODES;
+
+pub const ENOUGH_BYTES: usize = LINE_BYTES * NODES + 1;
 
 // What the reader answers: the count of nodes, or a refusal.
 pub enum ReadAnswer {

@@ -6,18 +6,20 @@ ghost use mathlib.Core.List.{_++_};
 ghost use lib.ListN.{length, drop};
 ghost use lib.Seq.{sets};
 ghost use Rattle.number.specs.Number.{numberIn, wordOf};
-ghost use Rattle.column.specs.Line.{columnOf, whole, lines, entries};
+ghost use Rattle.column.specs.Line.{lineBytes, columnOf, whole, lines, entries};
 ghost use Rattle.column.specs.File.{fileRefusal, tableOf, reading};
 ghost use Rattle.column.specs.Answers.{readAnswer};
 ghost use Rattle.column.specs.Promises.{LinesChecked, firstLine};
 ghost use Rattle.number.specs.Promises.{found};
 ghost use Rattle.refusal.specs.Outcome.{outcome};
 use crate::LINE_BYTES;
-use crate::MOST_LINES;
+use crate::NODE_COLUMN;
 use crate::ReadAnswer;
+use number::COLUMN;
 use number::Number;
 use number::read_number;
 use refusal::Refusal;
+use word::limits::MOST_NODES;
 
 // Whether the line that begins at `at` has 41 bytes, the last its line feed. However long the line is, only these are looked at.
 fn is_whole(file: &[u8], at: usize) -> bool
@@ -40,15 +42,15 @@ fn is_whole(file: &[u8], at: usize) -> bool
 
 // Column j of the line that begins at `at`.
 fn column_at(file: &[u8], at: usize, j: usize) -> Number
-    requires { ⌜ (at + 41 ≤ length (now file)) × (j < 4) ⌝ }
+    requires { ⌜ (at + lineBytes ≤ length (now file)) × (j < 4) ⌝ }
     ensures { λ r. ⌜ r ≡ found (numberIn (columnOf j (drop at (now (file .entry))))) ⌝ }
 {
     if j == 0 {
-        let end = at + 4;
+        let end = at + NODE_COLUMN;
         return read_number(&file[at..end]);
     }
-    let from = at + 4 + 12 * (j - 1);
-    let end = from + 12;
+    let from = at + NODE_COLUMN + COLUMN * (j - 1);
+    let end = from + COLUMN;
     read_number(&file[from..end])
 }
 
@@ -65,8 +67,8 @@ fn check_lines(file: &[u8]) -> ReadAnswer
         if at == file.len() {
             break 'lines ReadAnswer::Nodes(line);
         }
-        if line == MOST_LINES {
-            break 'lines ReadAnswer::Refused(Refusal::WrongNodeCount(MOST_LINES));
+        if line == MOST_NODES {
+            break 'lines ReadAnswer::Refused(Refusal::WrongNodeCount(MOST_NODES));
         }
         if !is_whole(file, at) {
             break 'lines ReadAnswer::Refused(Refusal::MalformedLine(line));
@@ -91,7 +93,7 @@ fn check_lines(file: &[u8]) -> ReadAnswer
 
 // The word of a column's number.
 fn word_at(file: &[u8], at: usize, j: usize) -> u32
-    requires { ⌜ (at + 41 ≤ length (now file)) × (j < 4) ⌝ }
+    requires { ⌜ (at + lineBytes ≤ length (now file)) × (j < 4) ⌝ }
     ensures { λ r. ⌜ r ≡ wordOf (numberIn (columnOf j (drop at (now (file .entry))))) ⌝ }
 {
     let read = column_at(file, at, j);
@@ -103,7 +105,7 @@ fn word_at(file: &[u8], at: usize, j: usize) -> u32
 
 // The three numbers of the line that begins at `at` become node `node` of the table.
 fn store_node(file: &[u8], at: usize, table: &mut [u32], node: usize)
-    requires { ⌜ (at + 41 ≤ length (now file)) × (3 * node + 3 ≤ length (now table)) ⌝ }
+    requires { ⌜ (at + lineBytes ≤ length (now file)) × (3 * node + 3 ≤ length (now table)) ⌝ }
     ensures { λ _. ⌜ now (table .exit) ≡ sets (now (table .entry)) (3 * node) (entries (drop at (now (file .entry)))) ⌝ }
 {
     table[3 * node] = word_at(file, at, 1);

@@ -12,7 +12,10 @@ use crate::held::read_more;
 use crate::held::read_on;
 use crate::messages::print_malformed;
 use crate::messages::print_refusal;
+use column::ENOUGH_BYTES;
 use column::ReadAnswer;
+use column::TABLE_NUMBERS;
+use flat::format::CODE_NUMBERS;
 use player::Stop;
 use player::circuit_bytes;
 use player::put_ticks;
@@ -20,6 +23,8 @@ use player::read_block;
 use std::num::wrapping_add_u64;
 use translator::TranslateAnswer;
 use word::index;
+use word::limits::CELLS;
+use word::limits::CONTROLS;
 
 // Reads until the empty line behind the circuit is there, the input ends, or the file has a 513th line; gives where the
 // bytes that are held end.
@@ -32,7 +37,7 @@ fn read_circuit(from: i32, buffer: &mut [u8], held: usize) -> usize
         if circuit_bytes(&buffer[..end]) < end {
             return end;
         }
-        if 20993 <= end {
+        if ENOUGH_BYTES <= end {
             return end;
         }
         let next = read_more(from, buffer, end);
@@ -44,7 +49,7 @@ fn read_circuit(from: i32, buffer: &mut [u8], held: usize) -> usize
 }
 
 // The code of a table; gives how many numbers it has, and none where the table is refused, which is printed.
-fn translate_table(table: &[u32], code: &mut [u32; 10276]) -> usize
+fn translate_table(table: &[u32], code: &mut [u32; CODE_NUMBERS]) -> usize
     ensures { λ r. ⌜ Coded (now (code .exit)) r ⌝ }
 {
     let answer = translator::translate(table, code);
@@ -58,10 +63,10 @@ fn translate_table(table: &[u32], code: &mut [u32; 10276]) -> usize
 }
 
 // The same of a column file.
-fn translate_file(file: &[u8], code: &mut [u32; 10276]) -> usize
+fn translate_file(file: &[u8], code: &mut [u32; CODE_NUMBERS]) -> usize
     ensures { λ r. ⌜ Coded (now (code .exit)) r ⌝ }
 {
-    let mut table = [0u32; 1536];
+    let mut table = [0u32; TABLE_NUMBERS];
     let answer = column::read(file, &mut table);
     match answer {
         ReadAnswer::Refused(r) => {
@@ -191,8 +196,8 @@ fn play_blocks(
 fn play_code(from: i32, code: &[u32], buffer: &mut [u8], first: Rest)
     requires { ⌜ Header (now code) × Stands first (now buffer) ⌝ }
 {
-    let mut cells = [0u32; 16384];
-    let mut controls = [0u32; 16];
+    let mut cells = [0u32; CELLS];
+    let mut controls = [0u32; CONTROLS];
     cells::load(code[3], &mut cells);
     play_blocks(from, code, &mut controls, &mut cells, buffer, first);
 }
@@ -203,7 +208,7 @@ fn play_input(from: i32, buffer: &mut [u8], held: usize)
 {
     let end = read_circuit(from, buffer, held);
     let circuit = circuit_bytes(&buffer[..end]);
-    let mut code = [0u32; 10276];
+    let mut code = [0u32; CODE_NUMBERS];
     let numbers = translate_file(&buffer[..circuit], &mut code);
     if numbers == 0 {
         return;

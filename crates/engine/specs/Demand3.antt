@@ -4,6 +4,7 @@ use mathlib.Core.Path.{_≡_}
 use mathlib.Core.List.{List, [], _∷_}
 use lib.IntN.{ℤ}
 use lib.ListN.{take}
+use Rattle.word.specs.Limits.{mostInstructions, mostCells}
 use Rattle.word.specs.Tick.{Words}
 use Rattle.refusal.specs.Answer.{count}
 use Rattle.refusal.specs.Answer.Answer.{counts, refused}
@@ -25,8 +26,8 @@ pub record Runnable (table : List ℕ) (cells : ℕ) : Type 0 where
   pub instructions : ℕ
   pub accepted : checked table ≡ counts (inputs ∷ outputs ∷ instructions ∷ cells ∷ [])
   pub words : Words table
-  pub short : instructions ≤ 2048
-  pub few : cells ≤ 16384
+  pub short : instructions ≤ mostInstructions
+  pub few : cells ≤ mostCells
 
 -- ", and cells that a load has cleared for it, whatever they held before. For every list of runs of the translated code", with "any other refused calls, runs
 -- of other code included," between, each lent the cells as the last left them: the law of the list, of its cut after each tick, and of ticks without demand.

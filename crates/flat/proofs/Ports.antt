@@ -14,7 +14,7 @@ use Rattle.word.specs.Choice.{_and_}
 use Rattle.word.specs.Tick.{tick, stepped}
 use Rattle.word.proofs.Lists.{first-true, second-true, both-true}
 use Rattle.flat.specs.Flat.{machine, execute, held}
-use Rattle.flat.specs.Code.{header, resultsAt, instructionsOf, inputCount, outputCount, instructionCount, decode, codeTick}
+use Rattle.flat.specs.Code.{header, resultsAt, mostRegisters, instructionsOf, inputCount, outputCount, instructionCount, decode, codeTick}
 use Rattle.flat.specs.Check.{allBelow}
 use Rattle.flat.specs.Steps.{Checked}
 use Rattle.flat.proofs.Decoded.{code-results, results-all, below-step}
@@ -34,8 +34,8 @@ more-below (r ∷ rs) e f l h =
     let b : r < e = ltb-true r e (first-true (ltb r e) (allBelow e rs) h) in
     both-true (ltb r f) (allBelow f rs) (lt-ltb r f (omega arith)) (more-below rs e f l (second-true (ltb r e) (allBelow e rs) h))
 
--- the output registers of a checked code, where there are 32 and 2,048 registers
-pub results-below : (code ρ : List ℕ) (c : ℕ) → Checked code → c ≡ instructionCount code → 2080 ≤ length ρ → allBelow (length ρ) (drop (resultsAt c) code) ≡ true
+-- the output registers of a checked code, where there are registers for any code
+pub results-below : (code ρ : List ℕ) (c : ℕ) → Checked code → c ≡ instructionCount code → mostRegisters ≤ length ρ → allBelow (length ρ) (drop (resultsAt c) code) ≡ true
 results-below code ρ c k e l =
     rw e (more-below (drop (resultsAt (instructionCount code)) code) (inputCount code + instructionCount code) (length ρ) (omega (arith, k .head .ins, k .head .count)) (code-results code (k .ok)))
 

@@ -5,6 +5,7 @@ use mathlib.Core.List.{List, [], _∷_}
 use lib.ListN.{length}
 use lib.Dec.{eqb, leb, ltb}
 use Rattle.word.specs.Choice.{_and_, pick}
+use Rattle.word.specs.Limits.{widest, controlCount, longestDelay, mostInstructions, mostCells}
 use Rattle.word.specs.Operation.{operands}
 use Rattle.flat.specs.Flat.{Instruction}
 use Rattle.flat.specs.Code.{Code, decode, inputCount, outputCount, instructionCount, cellCount, resultsAt}
@@ -30,9 +31,9 @@ inputOk op k r x = pick (ltb k (operands op)) (ltb x r) (eqb x 0)
 unfoldable pub instructionOk : (cells end r : ℕ) → Instruction → Bool
 instructionOk cells end r x =
     pick (eqb (x .code) 1) (unused (x .b ∷ x .c ∷ x .d ∷ x .e ∷ []))
-    (pick (eqb (x .code) 2) (ltb (x .a) 16 and unused (x .b ∷ x .c ∷ x .d ∷ x .e ∷ []))
+    (pick (eqb (x .code) 2) (ltb (x .a) controlCount and unused (x .b ∷ x .c ∷ x .d ∷ x .e ∷ []))
     (pick (eqb (x .code) 3) (ltb 0 (operands (x .a)) and ltb (x .b) r and inputOk (x .a) 1 r (x .c) and inputOk (x .a) 2 r (x .e) and eqb (x .d) 0)
-    (pick (eqb (x .code) 4) (ltb (x .a) r and ltb (x .b) r and leb (x .d) 4095 and leb (x .c + suc (x .d)) cells and eqb (x .e) 0)
+    (pick (eqb (x .code) 4) (ltb (x .a) r and ltb (x .b) r and leb (x .d) longestDelay and leb (x .c + suc (x .d)) cells and eqb (x .e) 0)
     (pick (eqb (x .code) 5) (ltb (x .a) cells and unused (x .b ∷ x .c ∷ x .d ∷ x .e ∷ []))
     (pick (eqb (x .code) 6) (ltb (x .a) cells and ltb (x .b) r and unused (x .c ∷ x .d ∷ x .e ∷ []))
     (pick (eqb (x .code) 7) (ltb (x .a) r and leb (suc (r + x .b)) end and unused (x .c ∷ x .d ∷ x .e ∷ []))
@@ -46,7 +47,7 @@ instructionsOk cells end r (x ∷ xs) = instructionOk cells end r x and instruct
 -- not "header negative or above 32, 32, 2,048, 16,384; length not 4+6c+m"
 abbrev pub headerOk : List ℕ → Bool
 headerOk xs =
-    leb (inputCount xs) 32 and leb (outputCount xs) 32 and leb (instructionCount xs) 2048 and leb (cellCount xs) 16384
+    leb (inputCount xs) widest and leb (outputCount xs) widest and leb (instructionCount xs) mostInstructions and leb (cellCount xs) mostCells
     and eqb (length xs) (resultsAt (instructionCount xs) + outputCount xs)
 
 -- the instructions, and the output registers "below n+c", which is `end`

@@ -2,6 +2,7 @@
 use Prim.Native.Nat.{ℕ, zero, suc, _+_, _*_}
 use mathlib.Core.List.{List, [], _∷_, _++_}
 use lib.ListN.{length, getD, drop, take}
+use Rattle.word.specs.Limits.{widest, mostInstructions}
 use Rattle.word.specs.Tick.{Tick, Stepped, stepped}
 use Rattle.flat.specs.Flat.{Instruction, instruction, width, machine, execute, held}
 
@@ -45,6 +46,13 @@ header = 4
 -- where the output registers begin, behind c instructions
 abbrev pub resultsAt : ℕ → ℕ
 resultsAt c = header + width * c
+
+-- how many registers and numbers the largest code has
+abbrev pub mostRegisters : ℕ
+mostRegisters = widest + mostInstructions
+
+abbrev pub mostNumbers : ℕ
+mostNumbers = resultsAt mostInstructions + widest
 
 -- the instruction that stands at p
 abbrev pub instructionAt : List ℕ → ℕ → Instruction

@@ -6,11 +6,12 @@ use mathlib.Core.List.{List, _∷_, _++_}
 use lib.Dec.{eqb, ltb}
 use lib.ListN.{length, getD, take}
 use Rattle.word.specs.Choice.{_and_, pick}
+use Rattle.word.specs.Limits.{widest, controlCount, mostInstructions, mostCells, mostTicks}
 use Rattle.word.specs.Operation.{operands}
 use Rattle.word.specs.Tick.{zeros}
 use Rattle.flat.specs.declared.format.Instruction.{Instruction as Listed}
 use Rattle.flat.specs.Flat.{Instruction, instruction, width, effect, worked}
-use Rattle.flat.specs.Code.{header, resultsAt, instructionAt, inputCount, outputCount, instructionCount, cellCount}
+use Rattle.flat.specs.Code.{header, resultsAt, mostRegisters, instructionAt, inputCount, outputCount, instructionCount, cellCount}
 use Rattle.flat.specs.Check.{instructionOk, codeOk}
 
 -- an instruction as the code holds it
@@ -19,10 +20,10 @@ listed x = instruction (x .code) (x .a) (x .b) (x .c) (x .d) (x .e)
 
 -- what the header's check shows
 pub record Header (xs : List ℕ) : Type 0 where
-  pub ins : inputCount xs ≤ 32
-  pub outs : outputCount xs ≤ 32
-  pub count : instructionCount xs ≤ 2048
-  pub cells : cellCount xs ≤ 16384
+  pub ins : inputCount xs ≤ widest
+  pub outs : outputCount xs ≤ widest
+  pub count : instructionCount xs ≤ mostInstructions
+  pub cells : cellCount xs ≤ mostCells
   pub long : length xs ≡ resultsAt (instructionCount xs) + outputCount xs
 
 -- a code that passed the check
@@ -46,7 +47,7 @@ pub record Workable (key : ℕ) (x : Instruction) (controls registers cells : Li
   pub own : ℕ
   pub ok : instructionOk (length cells) end own x ≡ true
   pub room : own ≤ length registers
-  pub sixteen : length controls ≡ 16
+  pub sixteen : length controls ≡ controlCount
 
 -- the same for its own register and those of the instructions that it may skip
 pub record Steppable (key : ℕ) (x : Instruction) (controls : List ℕ) (own : ℕ) (registers cells : List ℕ) : Type 0 where
@@ -55,7 +56,7 @@ pub record Steppable (key : ℕ) (x : Instruction) (controls : List ℕ) (own : 
   pub ok : instructionOk (length cells) end own x ≡ true
   pub inside : own < end
   pub room : end ≤ length registers
-  pub sixteen : length controls ≡ 16
+  pub sixteen : length controls ≡ controlCount
 
 -- it worked on the registers below its own: they are now followed by its value and by zeros for the s that it skips
 pub record Advanced (x : Instruction) (controls : List ℕ) (own : ℕ) (registers cells : List ℕ) (s : ℕ) (registers′ cells′ : List ℕ) : Type 0 where
@@ -67,15 +68,15 @@ pub record Advanced (x : Instruction) (controls : List ℕ) (own : ℕ) (registe
 pub record Ready (code keys controls registers cells : List ℕ) : Type 0 where
   pub checked : Checked code
   pub keyed : Keys code keys (inputCount code + instructionCount code) header (inputCount code)
-  pub room : 2080 ≤ length registers
+  pub room : mostRegisters ≤ length registers
   pub all : length cells ≡ cellCount code
-  pub sixteen : length controls ≡ 16
+  pub sixteen : length controls ≡ controlCount
 
 -- a call that rows 13, 14 and 12 let pass, with the cells and the outputs that it needs and no more
 pub record Playable (code : List ℕ) (ticks : ℕ) (inputs controls cells outputs : List ℕ) : Type 0 where
   pub checked : Checked code
-  pub few : ticks ≤ 4096
+  pub few : ticks ≤ mostTicks
   pub ins : length inputs ≡ ticks * inputCount code
   pub outs : length outputs ≡ ticks * outputCount code
   pub all : length cells ≡ cellCount code
-  pub sixteen : length controls ≡ 16
+  pub sixteen : length controls ≡ controlCount

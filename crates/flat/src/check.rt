@@ -8,12 +8,18 @@ use crate::format::OUTPUTS;
 use crate::format::WIDTH;
 use crate::format::instruction_at;
 use word::index;
+use word::limits::LONGEST_DELAY;
+use word::limits::MOST_CELLS;
+use word::limits::MOST_INSTRUCTIONS;
+use word::limits::SLOTS;
+use word::limits::WIDEST;
 use word::operands;
 ghost use mathlib.Core.Path.{_≡_};
 ghost use mathlib.Core.List.{[], _∷_};
 ghost use Prim.Native.Nat.{_+_, _<_, _≤_};
 ghost use lib.ListN.{length, drop};
 ghost use lib.Dec.{eqb, ltb};
+ghost use Rattle.word.specs.Limits.{widest, mostInstructions};
 ghost use Rattle.word.specs.Choice.{_and_, pick};
 ghost use Rattle.word.specs.Operation.{operands as operandsOf};
 ghost use Rattle.flat.specs.Code.{header, resultsAt, instructionsOf, inputCount, instructionCount, decode};
@@ -55,12 +61,12 @@ fn instruction_ok(x: Instruction, cells: u32, end: u32, own: u32) -> bool
     let code = x.code;
     match code {
         1 => unused(x.b, x.c, x.d, x.e),
-        2 => x.a < 16 && unused(x.b, x.c, x.d, x.e),
+        2 => x.a < SLOTS && unused(x.b, x.c, x.d, x.e),
         3 => operation_ok(x, own),
         4 => {
             x.a < own
                 && (x.b < own
-                    && (x.d <= 4095
+                    && (x.d <= LONGEST_DELAY
                         && (index(x.c) + (index(x.d) + 1) <= index(cells) && x.e == 0)))
         }
         5 => x.a < cells && unused(x.b, x.c, x.d, x.e),
@@ -77,17 +83,17 @@ fn header_ok(code: &[u32]) -> bool
     if code.len() < HEADER {
         return false;
     }
-    code[INPUTS] <= 32
-        && (code[OUTPUTS] <= 32
-            && (code[INSTRUCTIONS] <= 2048
-                && (code[CELLS] <= 16384
+    code[INPUTS] <= WIDEST
+        && (code[OUTPUTS] <= WIDEST
+            && (code[INSTRUCTIONS] <= MOST_INSTRUCTIONS
+                && (code[CELLS] <= MOST_CELLS
                     && code.len()
                         == HEADER + WIDTH * index(code[INSTRUCTIONS]) + index(code[OUTPUTS]))))
 }
 
 // The first count instructions, of which the first writes register `first`.
 fn instructions_ok(code: &[u32], count: u32, cells: u32, first: u32) -> bool
-    requires { ⌜ (resultsAt count ≤ length (now code)) × ((count ≤ 2048) × (first ≤ 32)) ⌝ }
+    requires { ⌜ (resultsAt count ≤ length (now code)) × ((count ≤ mostInstructions) × (first ≤ widest)) ⌝ }
     ensures { λ r. ⌜ r ≡ instructionsOk cells (first + count) first (instructionsOf count (drop header (now (code .entry)))) ⌝ }
 {
     let end = first + count;

@@ -1,4 +1,6 @@
 // The format of flat code: a header, instructions of so many numbers each, and the output registers.
+use word::limits::BEAM;
+use word::limits::MOST_INSTRUCTIONS;
 ghost use mathlib.Core.Path.{_≡_};
 ghost use Prim.Native.Nat.{_+_, _≤_};
 ghost use lib.ListN.{length};
@@ -21,8 +23,10 @@ pub const CELLS: usize = 3;
 
 pub const HEADER: usize = 4;
 
-// The registers of the largest code: 32 inputs and 2,048 instructions.
-pub const REGISTERS: usize = 2080;
+// The registers and the numbers of the largest code.
+pub const REGISTERS: usize = BEAM + MOST_INSTRUCTIONS as usize;
+
+pub const CODE_NUMBERS: usize = HEADER + WIDTH * MOST_INSTRUCTIONS as usize + BEAM;
 
 // One instruction: its code and its operands.
 pub struct Instruction {

@@ -10,7 +10,7 @@ use word::operands;
 ghost use mathlib.Core.Path.{_≡_};
 ghost use Prim.Native.Nat.{_+_, _≤_};
 ghost use lib.ListN.{length};
-ghost use Rattle.flat.specs.Code.{header, inputCount, instructionCount};
+ghost use Rattle.flat.specs.Code.{header, mostRegisters, inputCount, instructionCount};
 ghost use Rattle.flat.specs.Steps.{listed, keyOf, Header, Keys};
 
 // The key of an instruction: 0 for a skip, 7 and its op for an operation, for any other its code.
@@ -31,7 +31,7 @@ fn key_of(x: Instruction) -> u32
 
 // The keys of a code, each at the register that its instruction writes.
 pub fn put_keys(code: &[u32], keys: &mut [u32])
-    requires { ⌜ Header (now code) × (2080 ≤ length (now keys)) ⌝ }
+    requires { ⌜ Header (now code) × (mostRegisters ≤ length (now keys)) ⌝ }
     ensures { λ _. ⌜ Keys (now (code .entry)) (now (keys .exit)) (inputCount (now (code .entry)) + instructionCount (now (code .entry))) header (inputCount (now (code .entry))) ⌝ }
 {
     let first = index(code[INPUTS]);

@@ -11,6 +11,7 @@ use Rattle.refusal.specs.declared.Refusal.{Refusal}
 use Rattle.refusal.specs.Refusals.{numberOf, placeOf}
 use Rattle.number.specs.Put.{Put, Begins}
 use Rattle.number.proofs.Stores.{begins-of}
+use Rattle.flat.specs.Code.{mostNumbers}
 use Rattle.flat.specs.Check.{codeOk}
 use Rattle.flat.proofs.Decoded.{code-header}
 use Rattle.translator.specs.declared.TranslateAnswer.{TranslateAnswer}
@@ -19,7 +20,7 @@ use Rattle.refusal.specs.Answer.{count}
 use Rattle.refusal.specs.Outcome.{outcome}
 use Rattle.translator.specs.Translate.{answerOf, translatedTable}
 use Rattle.translator.proofs.Delivered.{is-delivered, delivered-passes}
-use Rattle.listing.specs.Print.{codeText, refusalText, mostNumbers, outcomeText, tableText}
+use Rattle.listing.specs.Print.{codeText, refusalText, mostBytes, outcomeText, tableText}
 use Rattle.listing.specs.Steps.{Listable}
 
 module _ (table code : List ℕ) {a : TranslateAnswer} {code′ : List ℕ} (t : outcome (answerOf a) code′ ≡ translatedTable table code) where
@@ -39,7 +40,7 @@ module _ (table code : List ℕ) {a : TranslateAnswer} {code′ : List ℕ} (t :
     pub code-passes : Words table → codeOk (take n code′) ≡ true
     code-passes = delivered-passes table code counted
 
-    pub is-listable : ((k : ℕ) → getD table k 0 < 2 ^ 32) → (text : List ℕ) → 125393 ≤ length text → Listable (take n code′) text
+    pub is-listable : ((k : ℕ) → getD table k 0 < 2 ^ 32) → (text : List ℕ) → mostBytes ≤ length text → Listable (take n code′) text
     is-listable entries text h = record { head = code-header (take n code′) (code-passes (words-of table entries)); room = h }
 
 -- the whole call on a table

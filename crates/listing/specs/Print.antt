@@ -1,18 +1,19 @@
 -- "The translator's print"
-use Prim.Native.Nat.{ℕ, zero, suc}
+use Prim.Native.Nat.{ℕ, zero, suc, _+_, _*_}
 use mathlib.Core.List.{List, [], _∷_, _++_, map}
 use mathlib.Core.Option.{Option, none, some}
 use lib.IntN.{ℤ}
 use lib.ListN.{take, drop}
+use Rattle.word.specs.Limits.{widest, mostInstructions}
 use Rattle.word.specs.Word.{value, low}
 use Rattle.word.specs.Tick.{zeros, headOr}
 use Rattle.refusal.specs.Answer.{Answer}
 use Rattle.refusal.specs.Answer.Answer.{counts, refused}
-use Rattle.number.specs.Row.{row}
+use Rattle.number.specs.Row.{row, rowBytes}
 use Rattle.column.specs.Line.{lines}
 use Rattle.column.specs.File.{fileRefusal, tableOf}
 use Rattle.flat.specs.Flat.{width}
-use Rattle.flat.specs.Code.{header, instructionCount, outputCount, resultsAt}
+use Rattle.flat.specs.Code.{header, instructionCount, outputCount, resultsAt, mostNumbers}
 use Rattle.refusal.specs.Outcome.{Outcome}
 use Rattle.translator.specs.Translate.{translatedTable}
 
@@ -40,14 +41,14 @@ abbrev pub answerText : Answer → List ℕ → List ℕ
 answerText (counts ks) code = codeText (take (headOr 0 ks) code)
 answerText (refused number place) code = refusalText number place
 
--- every code fits: 4, five times 2,048, and 32 numbers
-abbrev pub mostNumbers : ℕ
-mostNumbers = 10276
+-- how many bytes the print of the largest code has
+abbrev pub mostBytes : ℕ
+mostBytes = rowBytes header + (mostInstructions * rowBytes width + widest * rowBytes 1)
 
 abbrev pub outcomeText : Outcome → List ℕ
 outcomeText o = answerText (o .answer) (o .buffer)
 
--- the print of a table
+-- the print of a table; every code fits
 unfoldable pub tableText : List ℕ → List ℕ
 tableText table = outcomeText (translatedTable table (zeros mostNumbers))
 

@@ -3,7 +3,7 @@ use Prim.Native.Nat.{ℕ, zero, suc, _+_, _≤_}
 use mathlib.Core.List.{List}
 use lib.ListN.{length, drop}
 use Rattle.flat.specs.Steps.{Header}
-use Rattle.listing.specs.Print.{rows}
+use Rattle.listing.specs.Print.{rows, mostBytes}
 
 -- there are k times w numbers
 abbrev pub Full : (w k : ℕ) → List ℕ → Type 0
@@ -18,4 +18,4 @@ pub record Rows (numbers : List ℕ) (w k : ℕ) (text : List ℕ) (from : ℕ) 
 -- a code that has its counted length, and room for all its lines
 pub record Listable (code text : List ℕ) : Type 0 where
   pub head : Header code
-  pub room : 125393 ≤ length text
+  pub room : mostBytes ≤ length text

@@ -1,22 +1,43 @@
 // The translator's print: the code of a column file as text, or number and place of the refusal.
 use column::ReadAnswer;
+use column::TABLE_NUMBERS;
+use flat::format::CODE_NUMBERS;
+use flat::format::HEADER;
+use flat::format::INSTRUCTIONS;
+use flat::format::OUTPUTS;
+use flat::format::WIDTH;
+use number::COLUMN;
 use number::put_row;
 use refusal::Refusal;
 use translator::TranslateAnswer;
 use word::index;
-ghost use Prim.Native.Nat.{_+_, _*_, _≤_};
+use word::limits::BEAM;
+use word::limits::MOST_INSTRUCTIONS;
+ghost use Prim.Native.Nat.{_+_, _≤_};
 ghost use lib.ListN.{length};
 ghost use Rattle.refusal.specs.Refusals.{numberOf, placeOf};
-ghost use Rattle.listing.specs.Print.{line, rows, codeText, refusalText, tableText, fileText};
+ghost use Rattle.listing.specs.Print.{line, rows, codeText, refusalText, mostBytes, tableText, fileText};
 ghost use Rattle.number.specs.Put.{Put, Begins};
+ghost use Rattle.number.specs.Row.{rowBytes};
 ghost use Rattle.listing.specs.Steps.{Rows, Listable};
+
+// The bytes of a line of so many numbers, and of the print of the largest code.
+const HEADER_BYTES: usize = COLUMN * HEADER + 1;
+
+const INSTRUCTION_BYTES: usize = COLUMN * WIDTH + 1;
+
+const OUTPUT_BYTES: usize = COLUMN + 1;
+
+pub const PRINT_BYTES: usize = HEADER_BYTES
+    + INSTRUCTION_BYTES * MOST_INSTRUCTIONS as usize
+    + OUTPUT_BYTES * BEAM;
 
 // A line of numbers from `from` on, in the part of the text that is lent for it; gives where the next line begins.
 fn put_line(numbers: &[u32], text: &mut [u8], from: usize) -> usize
-    requires { ⌜ from + (12 * length (now numbers) + 1) ≤ length (now text) ⌝ }
+    requires { ⌜ from + rowBytes (length (now numbers)) ≤ length (now text) ⌝ }
     ensures { λ r. ⌜ Put (line (now (numbers .entry))) (now (text .entry)) from r (now (text .exit)) ⌝ }
 {
-    let end = from + 12 * numbers.len() + 1;
+    let end = from + COLUMN * numbers.len() + 1;
     put_row(numbers, &mut text[from..end]);
     end
 }
@@ -43,16 +64,16 @@ fn put_code(code: &[u32], text: &mut [u8]) -> usize
     requires { ⌜ Listable (now code) (now text) ⌝ }
     ensures { λ r. ⌜ Put (codeText (now (code .entry))) (now (text .entry)) 0 r (now (text .exit)) ⌝ }
 {
-    let instructions = index(code[2]);
-    let outputs = 4 + 5 * instructions;
-    let header = put_line(&code[0..4], text, 0);
-    let body = put_lines(&code[4..], 5, instructions, text, header);
-    put_lines(&code[outputs..], 1, index(code[1]), text, body)
+    let instructions = index(code[INSTRUCTIONS]);
+    let outputs = HEADER + WIDTH * instructions;
+    let header = put_line(&code[0..HEADER], text, 0);
+    let body = put_lines(&code[HEADER..], WIDTH, instructions, text, header);
+    put_lines(&code[outputs..], 1, index(code[OUTPUTS]), text, body)
 }
 
 // Number and place on one line.
 pub fn put_refusal(refusal: Refusal, text: &mut [u8]) -> usize
-    requires { ⌜ 25 ≤ length (now text) ⌝ }
+    requires { ⌜ rowBytes 2 ≤ length (now text) ⌝ }
     ensures { λ r. ⌜ Put (refusalText (numberOf refusal) (placeOf refusal)) (now (text .entry)) 0 r (now (text .exit)) ⌝ }
 {
     let numbers = [refusal::number(refusal), refusal::place(refusal)];
@@ -61,10 +82,10 @@ pub fn put_refusal(refusal: Refusal, text: &mut [u8]) -> usize
 
 // The print of a table.
 fn print_table(table: &[u32], text: &mut [u8]) -> usize
-    requires { ⌜ 125393 ≤ length (now text) ⌝ }
+    requires { ⌜ mostBytes ≤ length (now text) ⌝ }
     ensures { λ r. ⌜ Begins (tableText (now (table .entry))) (now (text .entry)) r (now (text .exit)) ⌝ }
 {
-    let mut code = [0u32; 10276];
+    let mut code = [0u32; CODE_NUMBERS];
     let answer = translator::translate(table, &mut code);
     match answer {
         TranslateAnswer::Refused(r) => put_refusal(r, text),
@@ -76,10 +97,10 @@ fn print_table(table: &[u32], text: &mut [u8]) -> usize
 }
 
 // The print of a column file; gives how many bytes it has.
-pub fn print(file: &[u8], text: &mut [u8; 125393]) -> usize
+pub fn print(file: &[u8], text: &mut [u8; PRINT_BYTES]) -> usize
     ensures { λ r. ⌜ Begins (fileText (now (file .entry))) (now (text .entry)) r (now (text .exit)) ⌝ }
 {
-    let mut table = [0u32; 1536];
+    let mut table = [0u32; TABLE_NUMBERS];
     let answer = column::read(file, &mut table);
     match answer {
         ReadAnswer::Refused(r) => put_refusal(r, text),

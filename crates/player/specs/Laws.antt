@@ -6,6 +6,7 @@ use mathlib.Core.List.{List, [], _∷_, _++_, map, flatten}
 use mathlib.Core.Logic.{_⊎_}
 use mathlib.Core.Option.{none}
 use lib.ListN.{length, take, drop, set}
+use Rattle.word.specs.Limits.{controlCount}
 use Rattle.word.specs.Tick.{Tick, tick}
 use Rattle.column.specs.Line.{enoughBytes, lines}
 use Rattle.number.specs.Row.{lineFeed}
@@ -39,7 +40,7 @@ pub record Bounded (n : ℕ) (text samples : List ℕ) (block : Block) : Type 0 
   pub onward : block .ticks ≤ block .bytes
   pub full : block .stop ≡ Full → (block .ticks ≡ mostTicks) ⊎ (length samples - block .ticks * n < n)
   pub rest : block .stop ≡ Rest → whole (drop (block .bytes) text) ≡ false
-  pub slot : (slot value : ℕ) → block .stop ≡ Control slot value → (slot < 16) × (block .ticks < block .bytes)
+  pub slot : (slot value : ℕ) → block .stop ≡ Control slot value → (slot < controlCount) × (block .ticks < block .bytes)
 
 abbrev pub BlockBounded : Type 0
 BlockBounded = (n : ℕ) (text samples : List ℕ) → Bounded n text samples (reads n text samples .block)

@@ -8,6 +8,7 @@ use lib.IntN.{ℤ}
 use lib.ListN.{length, drop, set}
 use lib.Seq.{sets}
 use Rattle.word.specs.Choice.{pick, _and_}
+use Rattle.word.specs.Limits.{controlCount}
 use Rattle.word.specs.Word.{low}
 use Rattle.word.specs.Tick.{Tick, tick, headOr, zeros}
 use Rattle.number.specs.Number.{space, same, contains, numberIn, wordOf}
@@ -78,7 +79,7 @@ tickSaid n ws = pick (isTick n ws) (inputs (map wordIn ws)) malformed
 abbrev pub setting : Option ℤ → Option ℤ → Said
 setting none v = malformed
 setting (some s) none = malformed
-setting (some s) (some v) = pick (ltb (low s) 16) (control (low s) (low v)) malformed
+setting (some s) (some v) = pick (ltb (low s) controlCount) (control (low s) (low v)) malformed
 
 abbrev pub controlSaid : List (List ℕ) → Said
 controlSaid [] = malformed
@@ -167,4 +168,4 @@ history n controls (l ∷ ls) = lineBefore (said n (textOf l)) controls (λ cs. 
 
 -- the ticks that an input asks for: its samples, with all controls 0 until set
 unfoldable pub asked : ℕ → List ℕ → List Tick
-asked n input = history n (zeros 16) (lines (samplesPart input))
+asked n input = history n (zeros controlCount) (lines (samplesPart input))

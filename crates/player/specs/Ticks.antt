@@ -4,6 +4,7 @@ use mathlib.Core.List.{List, [], _∷_, _++_}
 use lib.Dec.{leb}
 use lib.ListN.{take, drop}
 use Rattle.word.specs.Choice.{pick, _and_}
+use Rattle.word.specs.Limits.{widest}
 use Rattle.word.specs.Word.{value}
 use Rattle.number.specs.Number.{space, numeral}
 use Rattle.number.specs.Row.{lineFeed}
@@ -20,10 +21,6 @@ abbrev pub ticksText : (m k : ℕ) → List ℕ → List ℕ
 ticksText m zero ws = []
 ticksText m (suc k) ws = tickLine (take m ws) ++ ticksText m k (drop m ws)
 
--- "inputs or outputs above 32" are no circuit's
-abbrev pub mostOutputs : ℕ
-mostOutputs = 32
-
--- the lines of a block of ticks; of one that is too large, none
+-- the lines of a block of ticks; of one that is too large, none: "inputs or outputs above 32" are no circuit's
 unfoldable pub blockText : (m k : ℕ) → List ℕ → List ℕ
-blockText m k ws = pick (leb m mostOutputs and leb k mostTicks) (ticksText m k ws) []
+blockText m k ws = pick (leb m widest and leb k mostTicks) (ticksText m k ws) []

@@ -9,6 +9,7 @@ ghost use Rattle.player.specs.Samples.{circuitPart, words, wordIn, isTic
 ghost use Rattle.player.specs.Promises.{FirstByte, FirstWord, kindOf};
 use number::Number;
 use number::read_number;
+use word::limits::LAST_SLOT;
 
 // A block has at most 256 ticks.
 const MOST_TICKS: usize = 256;
@@ -193,7 +194,7 @@ fn setting(line: &[u8], at: usize) -> Kind
     if third.begin != third.end {
         return Kind::Malformed;
     }
-    if slot > 15 {
+    if slot > LAST_SLOT {
         return Kind::Malformed;
     }
     Kind::Control(slot, value)

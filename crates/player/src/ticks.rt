@@ -1,9 +1,11 @@
 // Ticks as text: a line a tick, its outputs as numerals with a space between.
 ghost use Prim.Native.Nat.{_+_, _*_, _≤_};
 ghost use lib.ListN.{length};
+ghost use Rattle.word.specs.Limits.{widest};
 ghost use Rattle.number.specs.Put.{Put, Begins};
 ghost use Rattle.player.specs.Ticks.{tickLine, ticksText, blockText};
 use number::put_numeral;
+use word::limits::BEAM;
 
 // The line of a tick, from `from` on; gives where the next line begins.
 fn put_tick(outputs: &[u32], text: &mut [u8], from: usize) -> usize
@@ -26,7 +28,7 @@ fn put_tick(outputs: &[u32], text: &mut [u8], from: usize) -> usize
 
 // The lines of so many ticks, from the front of the text.
 fn put_lines(samples: &[u32], ticks: usize, outputs: usize, text: &mut [u8]) -> usize
-    requires { ⌜ (ticks * outputs ≤ length (now samples)) × ((outputs ≤ 32) × (384 * ticks ≤ length (now text))) ⌝ }
+    requires { ⌜ (ticks * outputs ≤ length (now samples)) × ((outputs ≤ widest) × (384 * ticks ≤ length (now text))) ⌝ }
     ensures { λ r. ⌜ Put (ticksText outputs ticks (now (samples .entry))) (now (text .entry)) 0 r (now (text .exit)) ⌝ }
 {
     let mut left: usize = ticks;
@@ -50,7 +52,7 @@ pub fn put_ticks(
 ) -> usize
     ensures { λ r. ⌜ Begins (blockText outputs ticks (now (samples .entry))) (now (text .entry)) r (now (text .exit)) ⌝ }
 {
-    if outputs > 32 {
+    if outputs > BEAM {
         return 0;
     }
     if ticks > 256 {

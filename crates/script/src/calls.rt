@@ -5,6 +5,7 @@ use cells::LoadAnswer;
 use column::ReadAnswer;
 use column::WriteAnswer;
 use flat::RunAnswer;
+use listing::PRINT_BYTES;
 use translator::TranslateAnswer;
 use walker::WalkAnswer;
 use word::index;
@@ -130,7 +131,7 @@ pub fn run_block(
 
 // The translator's print of a file.
 pub fn print_file(file: &[u8]) {
-    let mut text = [0u8; 125393];
+    let mut text = [0u8; PRINT_BYTES];
     let bytes = listing::print(file, &mut text);
     show::text(&text[..bytes]);
 }

@@ -329,7 +329,7 @@ fn play_pieces(
 pub fn play() {
     let mut piece = [0u8; 65536];
     let mut table = [0u32; 2000];
-    let mut code = [0u32; 12000];
+    let mut code = [0u32; 13000];
     let mut inputs = [0u32; 131200];
     let mut controls = [0u32; 32];
     let mut file = [0u8; 21100];

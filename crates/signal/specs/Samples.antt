@@ -3,6 +3,7 @@ use Prim.Native.Nat.{ℕ, _-_, _^_}
 use mathlib.Core.Path.{_≡_}
 use mathlib.Core.List.{List, [], _∷_, map, reverse, List·Memᴰ}
 use lib.ListN.{replicate}
+use Rattle.word.specs.Limits.{controlCount}
 use Rattle.word.specs.Tick.{Beam, tick, zeros, headOr, tailOf}
 use Rattle.arity.specs.Table.{circuit, tree}
 use Rattle.signal.specs.Signal.{signal}
@@ -19,7 +20,7 @@ sample t xs ys = record { table = t; inputs = xs; outputs = ys }
 -- the meaning of a sample's circuit over its inputs
 unfoldable pub meaning : Sample → List Beam
 unfolding tree signal
-meaning s = reverse (signal (circuit (s .table)) (reverse (map (λ (x : Beam). tick x (zeros 16)) (s .inputs))))
+meaning s = reverse (signal (circuit (s .table)) (reverse (map (λ (x : Beam). tick x (zeros controlCount)) (s .inputs))))
 
 -- beams of one, of two and of three signals
 abbrev one : List ℕ → List Beam

@@ -4,6 +4,7 @@ use mathlib.Core.Path.{_≡_}
 use mathlib.Core.Bool.{true}
 use mathlib.Core.List.{List, _++_}
 use lib.ListN.{length, take, drop}
+use Rattle.word.specs.Limits.{widest, mostInstructions, mostCells}
 use Rattle.word.specs.Tick.{Tick, Words}
 use Rattle.refusal.specs.Answer.{count}
 use Rattle.refusal.specs.Outcome.{outcome}
@@ -24,7 +25,7 @@ TickRight = (n : ℕ) (t : Tree) (f : Tick) (cells : List ℕ) → WellFormed t 
 
 -- the code of a circuit of n nodes that refusals 8, 10 and 11 let pass never gets refusal 13
 abbrev pub TranslationOk : Type 0
-TranslationOk = (n : ℕ) (t : Tree) → WellFormed t → Complete n t → ins t ≤ 32 → outs t ≤ 32 → need t ≤ 2048 → cellsBefore t n ≤ 16384
+TranslationOk = (n : ℕ) (t : Tree) → WellFormed t → Complete n t → ins t ≤ widest → outs t ≤ widest → need t ≤ mostInstructions → cellsBefore t n ≤ mostCells
     → codeOk (encode (translation n t)) ≡ true
 
 -- where `translate` answers n, the first n numbers of the buffer are the code of the table
@@ -35,6 +36,6 @@ DeliversCode table code n code′ = outcome (count n) code′ ≡ translatedTabl
 pub record Delivered (table code : List ℕ) (n : ℕ) (code′ : List ℕ) : Type 0 where
   pub counted : n ≡ numbersOf table
   pub within : numbersOf table ≤ length code
-  pub short : need (circuit table) ≤ 2048
-  pub few : cellsBefore (circuit table) (nodes table) ≤ 16384
+  pub short : need (circuit table) ≤ mostInstructions
+  pub few : cellsBefore (circuit table) (nodes table) ≤ mostCells
   pub is : code′ ≡ translated table ++ drop (numbersOf table) code

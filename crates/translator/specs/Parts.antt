@@ -2,6 +2,7 @@
 use Prim.Native.Nat.{ℕ, _+_, _-_, _/_, _≤_}
 use mathlib.Core.List.{List, [], _∷_, _++_}
 use lib.ListN.{length, take}
+use Rattle.word.specs.Limits.{mostInstructions, mostCells}
 use Rattle.word.specs.Tick.{headOr, tailOf}
 use Rattle.arity.specs.Tree.{Tree, Composition, ins, outs, need}
 use Rattle.arity.specs.Tree.Composition.{sequence, parallel, split, merge, recursion}
@@ -109,5 +110,5 @@ pub record Holds (table : List ℕ) (i : ℕ) (q : Progress) (c : List ℕ) (r :
 pub record Translatable (table shape : List ℕ) : Type 0 where
   pub ready : Ready table shape
   pub least : 1 ≤ nodes table
-  pub instructions : need (circuit table) ≤ 2048
-  pub cells : base table (nodes table) ≤ 16384
+  pub instructions : need (circuit table) ≤ mostInstructions
+  pub cells : base table (nodes table) ≤ mostCells

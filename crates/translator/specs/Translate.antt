@@ -5,6 +5,7 @@ use mathlib.Core.List.{List, _++_}
 use lib.Dec.{leb}
 use lib.ListN.{length, drop}
 use Rattle.word.specs.Choice.{pick}
+use Rattle.word.specs.Limits.{mostInstructions, mostCells}
 use Rattle.refusal.specs.Answer.{Answer, count, refusalOf, refusedAll}
 use Rattle.refusal.specs.Answer.Answer.{counts, refused}
 use Rattle.refusal.specs.Outcome.{Outcome, outcome}
@@ -31,8 +32,8 @@ numbersOf table = resultsAt (need (circuit table)) + outs (circuit table)
 -- 10, then 11, then 12; else the code, and "a buffer longer than needed keeps its content past the needed part"
 unfoldable pub translates : List ℕ → List ℕ → Outcome
 translates table code =
-    pick (leb (need (circuit table)) 2048)
-    (pick (leb (cellsBefore (circuit table) (nodes table)) 16384)
+    pick (leb (need (circuit table)) mostInstructions)
+    (pick (leb (cellsBefore (circuit table) (nodes table)) mostCells)
     (pick (leb (numbersOf table) (length code))
     (outcome (count (numbersOf table)) (translated table ++ drop (numbersOf table) code))
     (outcome (refusedAll 12) code))

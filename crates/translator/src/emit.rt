@@ -12,6 +12,7 @@ use crate::place::Progress;
 use crate::place::push_one;
 use arity::fields::first_of;
 use arity::fields::kind_of;
+use arity::rows::SHAPE;
 use arity::rows::inputs_of;
 use arity::rows::row_at;
 use beam::entry;
@@ -28,7 +29,7 @@ ghost use Rattle.translator.specs.Parts.{Translatable, emission, Emits};
 // The translation of a primitive.
 fn emit_leaf(
     table: &[u32],
-    shape: &[u32; 2048],
+    shape: &[u32; SHAPE],
     node: usize,
     p: Progress,
     code: &mut [u32],
@@ -72,7 +73,7 @@ fn emit_leaf(
 // The translation of a node: its inputs are the first registers of p, its outputs the first of the answer.
 pub fn emit_node(
     table: &[u32],
-    shape: &[u32; 2048],
+    shape: &[u32; SHAPE],
     node: usize,
     p: Progress,
     code: &mut [u32],

@@ -6,6 +6,7 @@ mod parts;
 mod place;
 
 use arity::CheckAnswer;
+use arity::rows::SHAPE;
 use arity::survey;
 use beam::keep;
 use emit::emit_node;
@@ -20,6 +21,8 @@ use place::Progress;
 use place::ascending;
 use refusal::Refusal;
 use word::index;
+use word::limits::MOST_CELLS;
+use word::limits::MOST_INSTRUCTIONS;
 ghost use mathlib.Core.Path.{_≡_};
 ghost use mathlib.Core.List.{[], _∷_};
 ghost use Prim.Native.Nat.{_≤_};
@@ -48,7 +51,7 @@ fn put_header(code: &mut [u32], n: u32, m: u32, c: u32, cells: u32)
 }
 
 // The instructions of a circuit behind its header, and its output registers.
-fn put_circuit(table: &[u32], shape: &[u32; 2048], n: u32, m: u32, code: &mut [u32])
+fn put_circuit(table: &[u32], shape: &[u32; SHAPE], n: u32, m: u32, code: &mut [u32])
     requires { ⌜ Headed (now table) (now shape) n m (now code) ⌝ }
     ensures { λ _. ⌜ now (code .exit) ≡ store header (drop header (translated (now (table .entry)))) (now (code .entry)) ⌝ }
 {
@@ -70,7 +73,7 @@ fn put_circuit(table: &[u32], shape: &[u32; 2048], n: u32, m: u32, code: &mut [u
 // The code of an accepted table: refusal 10, then 11, then 12; else its numbers.
 fn translate_circuit(
     table: &[u32],
-    shape: &[u32; 2048],
+    shape: &[u32; SHAPE],
     n: u32,
     m: u32,
     c: u32,
@@ -80,10 +83,10 @@ fn translate_circuit(
     requires { ⌜ Counted (now table) (now shape) n m c cells ⌝ }
     ensures { λ r. ⌜ outcome (answerOf r) (now (code .exit)) ≡ translates (now (table .entry)) (now (code .entry)) ⌝ }
 {
-    if 2048 < c {
+    if MOST_INSTRUCTIONS < c {
         return TranslateAnswer::Refused(Refusal::TooManyInstructions);
     }
-    if 16384 < cells {
+    if MOST_CELLS < cells {
         return TranslateAnswer::Refused(Refusal::TooManyCells);
     }
     let total = HEADER + WIDTH * index(c) + index(m);
@@ -99,7 +102,7 @@ fn translate_circuit(
 pub fn translate(table: &[u32], code: &mut [u32]) -> TranslateAnswer
     ensures { λ r. ⌜ outcome (answerOf r) (now (code .exit)) ≡ translatedTable (now (table .entry)) (now (code .entry)) ⌝ }
 {
-    let mut shape = [0u32; 2048];
+    let mut shape = [0u32; SHAPE];
     let answer = survey(table, &mut shape);
     match answer {
         CheckAnswer::Refused(r) => TranslateAnswer::Refused(r),

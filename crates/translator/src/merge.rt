@@ -4,8 +4,10 @@ use crate::place::Place;
 use crate::place::Progress;
 use crate::place::push;
 use beam::entry;
+use word::limits::BEAM;
 ghost use Prim.Native.Nat.{_-_, _/_, _≤_};
 ghost use lib.ListN.{take};
+ghost use Rattle.word.specs.Limits.{widest};
 ghost use Rattle.translator.specs.Emit.{terms, merges};
 ghost use Rattle.translator.specs.Writing.{Room, Puts, Summed};
 
@@ -23,10 +25,10 @@ fn put_terms(
     b: usize,
     acc: u32,
     from: usize,
-    regs: [u32; 32],
+    regs: [u32; BEAM],
     m: usize,
 ) -> Sum
-    requires { ⌜ (k ≤ 32) × (b ≤ 32) × (from ≤ 64) ⌝ }
+    requires { ⌜ (k ≤ widest) × (b ≤ widest) × (from ≤ 64) ⌝ }
     requires { ⌜ Room (terms k b acc from (take m regs) (p .next) .code) p (now code) ⌝ }
     ensures { λ r. ⌜ Summed k b acc from (take m regs) p (now (code .entry)) r (now (code .exit)) ⌝ }
 {
@@ -49,7 +51,7 @@ fn put_terms(
 
 // The first m registers of p added onto b, output by output and from the first term on.
 pub fn put_merges(code: &mut [u32], p: Progress, m: usize, b: usize) -> Progress
-    requires { ⌜ (b ≤ m) × (m ≤ 32) ⌝ }
+    requires { ⌜ (b ≤ m) × (m ≤ widest) ⌝ }
     requires { ⌜ Room (merges b (m / b - 1) b 0 (take m (p .regs)) (p .place .next) .code) (p .place) (now code) ⌝ }
     ensures { λ r. ⌜ Puts (merges b (m / b - 1) b 0 (take m (p .regs)) (p .place .next)) b (p .place) (now (code .entry)) r (now (code .exit)) ⌝ }
 {
@@ -58,7 +60,7 @@ pub fn put_merges(code: &mut [u32], p: Progress, m: usize, b: usize) -> Progress
     }
     let more = m / b - 1;
     let regs = p.regs;
-    let mut sums = [0u32; 32];
+    let mut sums = [0u32; BEAM];
     let mut q = p.place;
     let mut i: usize = 0;
     while i < b {

@@ -9,6 +9,7 @@ use crate::place::put_writes;
 use arity::fields::first_of;
 use arity::fields::kind_of;
 use arity::fields::second_of;
+use arity::rows::SHAPE;
 use arity::rows::inputs_of;
 use arity::rows::outputs_of;
 use arity::rows::row_at;
@@ -23,7 +24,7 @@ ghost use Rattle.translator.specs.Parts.{Translatable, openingOf, middle
 // Before the first side: a recursion's reads.
 pub fn put_opening(
     table: &[u32],
-    shape: &[u32; 2048],
+    shape: &[u32; SHAPE],
     node: usize,
     p: Progress,
     code: &mut [u32],
@@ -50,7 +51,7 @@ pub fn put_opening(
 // Between the sides: a merge's additions. The first side left q.
 pub fn put_middle(
     table: &[u32],
-    shape: &[u32; 2048],
+    shape: &[u32; SHAPE],
     node: usize,
     p: Progress,
     q: Progress,
@@ -78,7 +79,7 @@ pub fn put_middle(
 // Behind the second side: a recursion's writes. The first side left q, the second r.
 pub fn put_closing(
     table: &[u32],
-    shape: &[u32; 2048],
+    shape: &[u32; SHAPE],
     node: usize,
     q: Progress,
     r: Progress,
@@ -115,7 +116,7 @@ pub fn put_closing(
 // Before an ondemand's body: the skip over the body and its writes.
 pub fn put_skip(
     table: &[u32],
-    shape: &[u32; 2048],
+    shape: &[u32; SHAPE],
     node: usize,
     p: Progress,
     code: &mut [u32],
@@ -139,7 +140,7 @@ pub fn put_skip(
 // Behind an ondemand's body, which left q: the writes of its results, and as many reads.
 pub fn put_holding(
     table: &[u32],
-    shape: &[u32; 2048],
+    shape: &[u32; SHAPE],
     node: usize,
     q: Progress,
     code: &mut [u32],

@@ -3,6 +3,7 @@ ghost use mathlib.Core.Path.{_≡_};
 ghost use mathlib.Core.List.{[], _∷_};
 ghost use Prim.Native.Nat.{_+_, _≤_};
 ghost use lib.ListN.{take};
+ghost use Rattle.word.specs.Limits.{widest};
 ghost use Rattle.flat.specs.Steps.{listed};
 ghost use Rattle.translator.specs.Emit.{single, reads, writes, upFrom};
 ghost use Rattle.translator.specs.Writing.{Room, Written, Puts, onCells};
@@ -11,6 +12,7 @@ use beam::one;
 use flat::format::Instruction;
 use flat::format::WIDTH;
 use flat::format::put_instruction;
+use word::limits::BEAM;
 
 // The next instruction: the register that it writes, and where it stands.
 pub struct Place {
@@ -20,7 +22,7 @@ pub struct Place {
 
 // The registers of a beam, and the next instruction.
 pub struct Progress {
-    pub regs: [u32; 32],
+    pub regs: [u32; BEAM],
     pub place: Place,
 }
 
@@ -51,8 +53,15 @@ pub fn push_one(code: &mut [u32], p: Place, x: Instruction) -> Progress
 }
 
 // An instruction on each of `count` cells from `cell` on, with the registers in order.
-fn put_cells(code: &mut [u32], p: Place, op: u32, cell: u32, regs: [u32; 32], count: usize) -> Place
-    requires { ⌜ (count ≤ 32) × (cell + count ≤ 65536) ⌝ }
+fn put_cells(
+    code: &mut [u32],
+    p: Place,
+    op: u32,
+    cell: u32,
+    regs: [u32; BEAM],
+    count: usize,
+) -> Place
+    requires { ⌜ (count ≤ widest) × (cell + count ≤ 65536) ⌝ }
     requires { ⌜ Room (onCells op cell (take count regs)) p (now code) ⌝ }
     ensures { λ r. ⌜ Written (onCells op cell (take count regs)) p (now (code .entry)) r (now (code .exit)) ⌝ }
 {
@@ -69,16 +78,16 @@ fn put_cells(code: &mut [u32], p: Place, op: u32, cell: u32, regs: [u32; 32], co
 
 // Reads of `count` cells.
 pub fn put_reads(code: &mut [u32], p: Place, cell: u32, count: usize) -> Place
-    requires { ⌜ (count ≤ 32) × (cell + count ≤ 65536) ⌝ }
+    requires { ⌜ (count ≤ widest) × (cell + count ≤ 65536) ⌝ }
     requires { ⌜ Room (reads cell count) p (now code) ⌝ }
     ensures { λ r. ⌜ Written (reads cell count) p (now (code .entry)) r (now (code .exit)) ⌝ }
 {
-    put_cells(code, p, 5, cell, [0u32; 32], count)
+    put_cells(code, p, 5, cell, [0u32; BEAM], count)
 }
 
 // Writes of the first `count` registers.
-pub fn put_writes(code: &mut [u32], p: Place, cell: u32, regs: [u32; 32], count: usize) -> Place
-    requires { ⌜ (count ≤ 32) × (cell + count ≤ 65536) ⌝ }
+pub fn put_writes(code: &mut [u32], p: Place, cell: u32, regs: [u32; BEAM], count: usize) -> Place
+    requires { ⌜ (count ≤ widest) × (cell + count ≤ 65536) ⌝ }
     requires { ⌜ Room (writes cell (take count regs)) p (now code) ⌝ }
     ensures { λ r. ⌜ Written (writes cell (take count regs)) p (now (code .entry)) r (now (code .exit)) ⌝ }
 {
@@ -86,11 +95,11 @@ pub fn put_writes(code: &mut [u32], p: Place, cell: u32, regs: [u32; 32], count:
 }
 
 // The `count` registers from `first` on.
-pub fn ascending(first: u32, count: usize) -> [u32; 32]
-    requires { ⌜ (count ≤ 32) × (first + count ≤ 65536) ⌝ }
+pub fn ascending(first: u32, count: usize) -> [u32; BEAM]
+    requires { ⌜ (count ≤ widest) × (first + count ≤ 65536) ⌝ }
     ensures { λ r. ⌜ take count r ≡ upFrom first count ⌝ }
 {
-    let mut regs = [0u32; 32];
+    let mut regs = [0u32; BEAM];
     let mut next = first;
     let mut i: usize = 0;
     while i < count {

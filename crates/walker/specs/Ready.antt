@@ -5,6 +5,7 @@ use mathlib.Core.List.{List}
 use lib.Dec.{eqb}
 use lib.ListN.{length, take}
 use Rattle.word.specs.Choice.{pick}
+use Rattle.word.specs.Limits.{mostNodes}
 use Rattle.word.specs.Tick.{Beam, Tick, tick, Stepped, stepped}
 use Rattle.cells.specs.Cells.{part}
 use Rattle.arity.specs.Tree.{Tree, Composition, ins, outs}
@@ -19,7 +20,7 @@ abbrev pub base : List ℕ → ℕ → ℕ
 base table = cellsBefore (circuit table)
 
 pub record Ready (table shape : List ℕ) : Type 0 where
-  pub few : nodes table ≤ 512
+  pub few : nodes table ≤ mostNodes
   pub node : (i : ℕ) → i < nodes table → Node table i
   pub row : (i : ℕ) → i < nodes table → Shaped table shape i
 

@@ -3,6 +3,7 @@ use Prim.Native.Nat.{ℕ}
 use mathlib.Core.List.{List}
 use lib.Dec.{leb}
 use Rattle.word.specs.Choice.{pick}
+use Rattle.word.specs.Limits.{mostCells}
 use Rattle.refusal.specs.Answer.{Answer, count, refusalOf}
 use Rattle.refusal.specs.Answer.Answer.{counts, refused}
 use Rattle.cells.specs.Block.{Ran, unchanged, refusal, called}
@@ -22,7 +23,7 @@ answerOf (Refused r) = refusalOf r
 -- 11, then 14 and 12
 unfoldable pub walked : ℕ → Tree → ℕ → List ℕ → List ℕ → List ℕ → List ℕ → Ran
 walked n t ticks inputs controls cells outputs =
-    pick (leb (cellsBefore t n) 16384)
+    pick (leb (cellsBefore t n) mostCells)
     (called (step (cellsBefore t) t) (ins t) (outs t) (cellsBefore t n) ticks inputs controls cells outputs)
     (refusal 11 cells outputs)
 

@@ -2,6 +2,7 @@
 use Prim.Native.Nat.{ℕ, _≤_}
 use mathlib.Core.Path.{_≡_}
 use mathlib.Core.List.{List, [], _∷_}
+use Rattle.word.specs.Limits.{mostCells}
 use Rattle.word.specs.Tick.{Words}
 use Rattle.refusal.specs.Answer.Answer.{counts}
 use Rattle.arity.specs.Table.{nodes, circuit}
@@ -22,10 +23,10 @@ walkCall table a from = record { from = from; lent = a .lent; outputs = a .outpu
 -- "For an accepted table of at most 16,384 cells, from cleared cells that walks of that table alone write, the walker writes, tick by tick, the samples that
 -- the published signal meaning gives, ondemand included."
 abbrev pub WalksLawful : List ℕ → Type 0
-WalksLawful table = (n m i d : ℕ) → checked table ≡ counts (n ∷ m ∷ i ∷ d ∷ []) → Words table → d ≤ 16384
+WalksLawful table = (n m i d : ℕ) → checked table ≡ counts (n ∷ m ∷ i ∷ d ∷ []) → Words table → d ≤ mostCells
     → LawfulFromLoad (nodes table) (circuit table) (walkOf table) d
 
 -- and so from any past, at any place of a block
 abbrev pub WalksGoOn : List ℕ → Type 0
-WalksGoOn table = (n m i d : ℕ) → checked table ≡ counts (n ∷ m ∷ i ∷ d ∷ []) → Words table → d ≤ 16384
+WalksGoOn table = (n m i d : ℕ) → checked table ≡ counts (n ∷ m ∷ i ∷ d ∷ []) → Words table → d ≤ mostCells
     → LawfulFromPast (nodes table) (circuit table) (walkOf table)

@@ -3,6 +3,7 @@ mod step;
 pub mod wiring;
 
 use arity::CheckAnswer;
+use arity::rows::SHAPE;
 use arity::survey;
 use beam::fetched;
 use beam::keep;
@@ -10,6 +11,7 @@ use cells::block_ok;
 use refusal::Refusal;
 use step::circuit_step;
 use word::index;
+use word::limits::CELLS;
 ghost use mathlib.Core.Path.{_≡_};
 ghost use Rattle.word.specs.Tick.{stepped};
 ghost use Rattle.cells.specs.Block.{ranAs, played, ticksOf};
@@ -20,7 +22,7 @@ ghost use Rattle.walker.specs.Walk.{answerOf, walked, walkedTable};
 // The ticks of a call that is not refused, one after another, on the cells and the outputs that it needs and no more.
 fn play(
     table: &[u32],
-    shape: &[u32; 2048],
+    shape: &[u32; SHAPE],
     root: usize,
     n: usize,
     m: usize,
@@ -55,7 +57,7 @@ pub enum WalkAnswer {
 // A call for an accepted table: refusal 11, then 14, then 12; else its ticks.
 fn walk_circuit(
     table: &[u32],
-    shape: &[u32; 2048],
+    shape: &[u32; SHAPE],
     n: u32,
     m: u32,
     count: u32,
@@ -69,7 +71,7 @@ fn walk_circuit(
     ensures { λ r. ⌜ ranAs (answerOf r) (now (cells .exit)) (now (outputs .exit)) ≡ walked (nodes (now (table .entry))) (circuit (now (table .entry))) ticks (now (inputs .entry)) (now (controls .entry)) (now (cells .entry)) (now (outputs .entry)) ⌝ }
 {
     let need = index(count);
-    if 16384 < need {
+    if CELLS < need {
         return WalkAnswer::Refused(Refusal::TooManyCells);
     }
     if !block_ok(n, ticks, inputs, controls) {
@@ -112,7 +114,7 @@ pub fn walk(
     ensures { λ r. ⌜ ranAs (answerOf r) (now (cells .exit)) (now (outputs .exit))
         ≡ walkedTable (now (table .entry)) ticks (now (inputs .entry)) (now (controls .entry)) (now (cells .entry)) (now (outputs .entry)) ⌝ }
 {
-    let mut shape = [0u32; 2048];
+    let mut shape = [0u32; SHAPE];
     let answer = survey(table, &mut shape);
     match answer {
         CheckAnswer::Refused(r) => WalkAnswer::Refused(r),

@@ -6,6 +6,7 @@ use crate::wiring::second_child;
 use crate::wiring::second_input;
 use arity::fields::first_of;
 use arity::fields::kind_of;
+use arity::rows::SHAPE;
 use arity::rows::cell_of;
 use arity::rows::inputs_of;
 use arity::rows::outputs_of;
@@ -17,6 +18,7 @@ use beam::one;
 use cells::delay_at;
 use word::demand;
 use word::index;
+use word::limits::BEAM;
 use word::operate;
 ghost use mathlib.Core.Path.{_≡_};
 ghost use Prim.Native.Nat.{_≤_};
@@ -38,12 +40,12 @@ fn number_at(s: &[u32], at: usize) -> u32
 // One tick of a primitive.
 fn leaf_step(
     table: &[u32],
-    shape: &[u32; 2048],
+    shape: &[u32; SHAPE],
     node: usize,
     controls: &[u32],
-    ins: [u32; 32],
+    ins: [u32; BEAM],
     cells: &mut [u32],
-) -> [u32; 32]
+) -> [u32; BEAM]
     requires { ⌜ Ready (now table) (now shape) ⌝ }
     requires { ⌜ Inside (now table) node ⌝ }
     requires { ⌜ kindAt (now table) node ≤ 6 ⌝ }
@@ -84,7 +86,7 @@ fn leaf_step(
 }
 
 // The outputs that an ondemand holds.
-fn held(table: &[u32], shape: &[u32; 2048], node: usize, cells: &[u32]) -> [u32; 32]
+fn held(table: &[u32], shape: &[u32; SHAPE], node: usize, cells: &[u32]) -> [u32; BEAM]
     requires { ⌜ Ready (now table) (now shape) ⌝ }
     requires { ⌜ Demands (now table) node ⌝ }
     requires { ⌜ Roomy (now table) (length (now cells)) ⌝ }
@@ -94,7 +96,7 @@ fn held(table: &[u32], shape: &[u32; 2048], node: usize, cells: &[u32]) -> [u32;
 }
 
 // The outputs of an ondemand's body, kept for the ticks without demand.
-fn hold(table: &[u32], shape: &[u32; 2048], node: usize, y: [u32; 32], cells: &mut [u32])
+fn hold(table: &[u32], shape: &[u32; SHAPE], node: usize, y: [u32; BEAM], cells: &mut [u32])
     requires { ⌜ Ready (now table) (now shape) ⌝ }
     requires { ⌜ Demands (now table) node ⌝ }
     requires { ⌜ Roomy (now table) (length (now cells)) ⌝ }
@@ -106,12 +108,12 @@ fn hold(table: &[u32], shape: &[u32; 2048], node: usize, y: [u32; 32], cells: &m
 // One tick of a node: a primitive, an ondemand, or a composition, whose children run one after the other.
 pub fn circuit_step(
     table: &[u32],
-    shape: &[u32; 2048],
+    shape: &[u32; SHAPE],
     node: usize,
     controls: &[u32],
-    ins: [u32; 32],
+    ins: [u32; BEAM],
     cells: &mut [u32],
-) -> [u32; 32]
+) -> [u32; BEAM]
     requires { ⌜ Ready (now table) (now shape) ⌝ }
     requires { ⌜ Inside (now table) node ⌝ }
     requires { ⌜ Roomy (now table) (length (now cells)) ⌝ }
@@ -148,12 +150,12 @@ pub fn circuit_step(
 // One tick of an ondemand: its body runs at a demand alone, and what it holds is given.
 fn demand_step(
     table: &[u32],
-    shape: &[u32; 2048],
+    shape: &[u32; SHAPE],
     node: usize,
     controls: &[u32],
-    ins: [u32; 32],
+    ins: [u32; BEAM],
     cells: &mut [u32],
-) -> [u32; 32]
+) -> [u32; BEAM]
     requires { ⌜ Ready (now table) (now shape) ⌝ }
     requires { ⌜ Demands (now table) node ⌝ }
     requires { ⌜ Roomy (now table) (length (now cells)) ⌝ }

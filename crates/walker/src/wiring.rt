@@ -2,6 +2,7 @@
 use arity::fields::first_of;
 use arity::fields::kind_of;
 use arity::fields::second_of;
+use arity::rows::SHAPE;
 use arity::rows::cell_of;
 use arity::rows::inputs_of;
 use arity::rows::outputs_of;
@@ -12,6 +13,7 @@ use beam::keep;
 use beam::merged;
 use beam::repeated;
 use word::index;
+use word::limits::BEAM;
 ghost use mathlib.Core.Path.{_≡_};
 ghost use lib.ListN.{length};
 ghost use Rattle.walker.specs.Ready.{Ready, Roomy, Joins, firstChild, secondChild, FirstGiven, SecondGiven, Finished};
@@ -40,11 +42,11 @@ pub fn second_child(table: &[u32], node: usize) -> usize
 // What the first child is given.
 pub fn first_input(
     table: &[u32],
-    shape: &[u32; 2048],
+    shape: &[u32; SHAPE],
     node: usize,
-    ins: [u32; 32],
+    ins: [u32; BEAM],
     cells: &[u32],
-) -> [u32; 32]
+) -> [u32; BEAM]
     requires { ⌜ Ready (now table) (now shape) ⌝ }
     requires { ⌜ Joins (now table) node ⌝ }
     requires { ⌜ Roomy (now table) (length (now cells)) ⌝ }
@@ -60,11 +62,11 @@ pub fn first_input(
 // What the second child is given, where y are the outputs of the first.
 pub fn second_input(
     table: &[u32],
-    shape: &[u32; 2048],
+    shape: &[u32; SHAPE],
     node: usize,
-    ins: [u32; 32],
-    y: [u32; 32],
-) -> [u32; 32]
+    ins: [u32; BEAM],
+    y: [u32; BEAM],
+) -> [u32; BEAM]
     requires { ⌜ Ready (now table) (now shape) ⌝ }
     requires { ⌜ Joins (now table) node ⌝ }
     ensures { λ r. ⌜ SecondGiven (now (table .entry)) node ins y r ⌝ }
@@ -90,12 +92,12 @@ pub fn second_input(
 // The outputs of the node, where y and z are those of its children; a recursion keeps what it feeds back.
 pub fn finish(
     table: &[u32],
-    shape: &[u32; 2048],
+    shape: &[u32; SHAPE],
     node: usize,
-    y: [u32; 32],
-    z: [u32; 32],
+    y: [u32; BEAM],
+    z: [u32; BEAM],
     cells: &mut [u32],
-) -> [u32; 32]
+) -> [u32; BEAM]
     requires { ⌜ Ready (now table) (now shape) ⌝ }
     requires { ⌜ Joins (now table) node ⌝ }
     requires { ⌜ Roomy (now table) (length (now cells)) ⌝ }

@@ -1,4 +1,6 @@
 // Words of 32 bits in two's complement: the operations of the document's table, their operand counts, and the demand.
+pub mod limits;
+
 use std::num::wrapping_add_u32;
 use std::num::wrapping_sub_u32;
 ghost use mathlib.Core.Path.{_≡_};

@@ -1,8 +1,8 @@
 -- `listing::put_code` meets its contract: the header, the instructions, the outputs.
-use Prim.Native.Nat.{ℕ, _+_, _*_}
 use mathlib.Core.Path.{refl, ap}
 use borrow.Author.Needs.{needs}
 use Rattle.word.proofs.Each.{words-of}
+use Rattle.flat.specs.Code.{resultsAt}
 use Rattle.listing.proofs.Codes.{rest, instructions-room, outputs-room, code-put}
 use Rattle.listing.proofs.put_code.Statement.{statement}
 use Rattle.listing.proofs.put_code.Tie as tie
@@ -76,7 +76,7 @@ put-lines-requires-2 c κs =
     let s = k .before in
     let code = s .args .code .now in
     outputs-room code (s .args .text .now) (words-of code (λ j. k .shared-slice-known .given j .fits)) (s .pre) _ _ (q .put-line .ensures) _ (i .index .ensures) _ (rest code refl)
-    _ _ (p .put-lines .ensures) _ (c .before .index2 .ensures) _ (rest code (ap (λ (n : ℕ). 4 + 5 * n) (i .index .ensures)))
+    _ _ (p .put-lines .ensures) _ (c .before .index2 .ensures) _ (rest code (ap resultsAt (i .index .ensures)))
 
 same-length : tie.Need-same-length
 same-length c = search needs
@@ -90,7 +90,7 @@ returns c =
     let s = k .before in
     let code = s .args .code .now in
     code-put code (s .args .text .now) (words-of code (λ j. k .shared-slice-known .given j .fits)) (s .pre) _ _ (q .put-line .ensures) _ (i .index .ensures) _ (rest code refl)
-    _ _ (p .put-lines .ensures) _ (c .before .before .before .before .index2 .ensures) _ (rest code (ap (λ (n : ℕ). 4 + 5 * n) (i .index .ensures)))
+    _ _ (p .put-lines .ensures) _ (c .before .before .before .before .index2 .ensures) _ (rest code (ap resultsAt (i .index .ensures)))
     _ _ (c .before .before .put-lines2 .ensures)
 
 pub put-code-spec : {M : Type 1} → statement M
