@@ -23,9 +23,9 @@
  * buffers may run at the same time. circuit_run does not recurse: it checks the code once a call, then works each
  * instruction at most once a tick, so that its time grows with the instructions, and with the ticks times the sum of
  * instructions, inputs and outputs, and with nothing else. Samples decide which bodies of an ondemand are skipped, those
- * whose clock is 0, which is less work, and which case of a delay, a quotient or a remainder is taken, a few machine
- * instructions. Before the first call that must be in time make one on the same buffers: memory is provided when it is
- * first touched, and the dynamic linker looks memset up at the first call.
+ * whose clock is 0, which is less work, and which case of a delay, a quotient, a remainder or a selector is taken, a few
+ * machine instructions. Before the first call that must be in time make one on the same buffers: memory is provided
+ * when it is first touched, and the dynamic linker looks memset up at the first call.
  */
 #ifndef CIRCUIT_H
 #define CIRCUIT_H
@@ -43,7 +43,9 @@ extern "C" {
 #define CIRCUIT_FILE_BYTES 20992   /* 41 for each line */
 #define CIRCUIT_WIDTH 32           /* inputs, and outputs, of a node */
 #define CIRCUIT_INSTRUCTIONS 2048
-#define CIRCUIT_CODE_NUMBERS (4 + 5 * CIRCUIT_INSTRUCTIONS + CIRCUIT_WIDTH)
+#define CIRCUIT_HEADER_NUMBERS 4      /* of a code: inputs, outputs, instructions, cells */
+#define CIRCUIT_INSTRUCTION_NUMBERS 6 /* of an instruction */
+#define CIRCUIT_CODE_NUMBERS (CIRCUIT_HEADER_NUMBERS + CIRCUIT_INSTRUCTION_NUMBERS * CIRCUIT_INSTRUCTIONS + CIRCUIT_WIDTH)
 #define CIRCUIT_CELLS 16384
 #define CIRCUIT_TICKS 4096  /* of one call */
 #define CIRCUIT_CONTROLS 16 /* exactly so many */
@@ -113,7 +115,7 @@ uint64_t circuit_read(const uint8_t *file, size_t file_bytes, int32_t *table, si
  * Refusals: 3; 12. Of the table only the count of numbers is checked. */
 uint64_t circuit_write(const int32_t *table, size_t table_numbers, uint8_t *file, size_t file_bytes);
 
-/* Translates a table into flat code: inputs, outputs, count of instructions, count of cells; the instructions, five
+/* Translates a table into flat code: inputs, outputs, count of instructions, count of cells; the instructions, six
  * numbers each; the output registers. Answers with the count of numbers.
  * Refusals: the table's; 10; 11; 12. */
 uint64_t circuit_translate(const int32_t *table, size_t table_numbers, int32_t *code, size_t code_numbers);

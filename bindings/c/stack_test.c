@@ -50,10 +50,11 @@ static void deepest_circuit(void) {
 /* The largest code: as many instructions `number 7`, 32 inputs, 32 outputs. */
 static void largest_code(void) {
     code[0] = CIRCUIT_WIDTH, code[1] = CIRCUIT_WIDTH, code[2] = CIRCUIT_INSTRUCTIONS, code[3] = CIRCUIT_CELLS;
-    for (int i = 0; i < CIRCUIT_INSTRUCTIONS; i++)
-        code[4 + 5 * i] = 1, code[4 + 5 * i + 1] = 7;
+    int32_t *next = &code[CIRCUIT_HEADER_NUMBERS];
+    for (int i = 0; i < CIRCUIT_INSTRUCTIONS; i++, next += CIRCUIT_INSTRUCTION_NUMBERS)
+        next[0] = 1, next[1] = 7;
     for (int i = 0; i < CIRCUIT_WIDTH; i++)
-        code[4 + 5 * CIRCUIT_INSTRUCTIONS + i] = CIRCUIT_WIDTH + i;
+        next[i] = CIRCUIT_WIDTH + i;
 }
 
 /* Each call answers whether it did its work. */
@@ -69,8 +70,10 @@ static int write_file(void) {
     return circuit_write(table, CIRCUIT_TABLE_NUMBERS, (uint8_t *)file, CIRCUIT_FILE_BYTES) == CIRCUIT_FILE_BYTES;
 }
 
+/* An instruction for each of the 16 numbers, three for each of the 481 ondemands, one output. */
 static int translate(void) {
-    return circuit_translate(table, CIRCUIT_TABLE_NUMBERS, translated, CIRCUIT_CODE_NUMBERS) == 7300;
+    uint64_t numbers = CIRCUIT_HEADER_NUMBERS + CIRCUIT_INSTRUCTION_NUMBERS * (16 + 3 * 481) + 1;
+    return circuit_translate(table, CIRCUIT_TABLE_NUMBERS, translated, CIRCUIT_CODE_NUMBERS) == numbers;
 }
 
 static int load(void) {

@@ -38,8 +38,12 @@ pub const FILE_BYTES: usize = 41 * NODES;
 pub const WIDTH: usize = 32;
 /// Most instructions of a code.
 pub const INSTRUCTIONS: usize = 2048;
+/// Numbers of a code's header: inputs, outputs, instructions, cells.
+pub const HEADER_NUMBERS: usize = 4;
+/// Numbers of an instruction.
+pub const INSTRUCTION_NUMBERS: usize = 6;
 /// Most numbers of a code: header, instructions, output registers.
-pub const CODE_NUMBERS: usize = 4 + 5 * INSTRUCTIONS + WIDTH;
+pub const CODE_NUMBERS: usize = HEADER_NUMBERS + INSTRUCTION_NUMBERS * INSTRUCTIONS + WIDTH;
 /// Most cells.
 pub const CELLS: usize = 16384;
 /// Most ticks of one call.

@@ -145,12 +145,18 @@ fn orders_of_the_calls() {
     }
 }
 
-/// A number that the header defines, alone or as a product in brackets.
+/// A number that the header defines, alone or as a sum of products in brackets, of numbers and other names.
 fn defined(name: &str) -> usize {
     let text = between(HEADER, &format!("#define CIRCUIT_{name} "), "\n");
     let text = text.split("/*").next().unwrap().trim();
-    let factors = text.trim_matches(['(', ')']).split(" * ");
-    factors.map(|x| x.parse::<usize>().expect(name)).product()
+    let factor = |x: &str| match x.strip_prefix("CIRCUIT_") {
+        Some(other) => defined(other),
+        None => x.parse().expect(name),
+    };
+    let terms = text.trim_matches(['(', ')']).split(" + ");
+    terms
+        .map(|term| term.split(" * ").map(factor).product::<usize>())
+        .sum()
 }
 
 #[test]
@@ -161,6 +167,9 @@ fn limits() {
         ("FILE_BYTES", circuit::FILE_BYTES),
         ("WIDTH", circuit::WIDTH),
         ("INSTRUCTIONS", circuit::INSTRUCTIONS),
+        ("HEADER_NUMBERS", circuit::HEADER_NUMBERS),
+        ("INSTRUCTION_NUMBERS", circuit::INSTRUCTION_NUMBERS),
+        ("CODE_NUMBERS", circuit::CODE_NUMBERS),
         ("CELLS", circuit::CELLS),
         ("TICKS", circuit::TICKS),
         ("CONTROLS", circuit::CONTROLS),
