@@ -1,4 +1,5 @@
-/* What the header says of buffers and answers: empty ones, lengths of 64 bits, refusals that write nothing. */
+/* What the header says of buffers and answers: empty ones, lengths of 64 bits, refusals that write nothing. And a
+ * selector, in a table and in codes. */
 #include "circuit.h"
 
 #include <stdio.h>
@@ -67,9 +68,66 @@ static void counts_and_refusals(void) {
     same("past the report", (int32_t)counts[4], 9);
 }
 
+/* A code of three inputs and one instruction, whose register, 3, is the output: one tick on 0, 7 and 8. */
+static uint64_t run_one(const int32_t *instruction, size_t numbers, int32_t *output) {
+    static const int32_t controls[CIRCUIT_CONTROLS], inputs[] = {0, 7, 8};
+    int32_t code[CIRCUIT_HEADER_NUMBERS + CIRCUIT_INSTRUCTION_NUMBERS + 1] = {3, 1, 1, 0};
+    size_t length = CIRCUIT_HEADER_NUMBERS;
+    for (size_t i = 0; i < numbers; i++)
+        code[length++] = instruction[i];
+    code[length++] = 3;
+    return circuit_run(code, length, 1, inputs, 3, controls, CIRCUIT_CONTROLS, NULL, 0, output, 1);
+}
+
+static void codes_of_a_selector(void) {
+    static const int32_t good[] = {3, 10, 0, 1, 0, 2};
+    static const int32_t wrong[][CIRCUIT_INSTRUCTION_NUMBERS] = {
+        {3, 1, 0, 1, 0, 2},  /* a third register for an addition */
+        {3, 9, 0, 0, 0, 1},  /* and for a negation */
+        {3, 10, 0, 1, 2, 0}, /* the fifth number */
+        {3, 10, 0, 1, 0, 3}, /* its own register */
+        {3, 11, 0, 1, 0, 2}, /* no op */
+    };
+    static const int32_t old[] = {3, 1, 0, 1, 0};
+    int32_t output = 9;
+    for (size_t i = 0; i < sizeof wrong / sizeof *wrong; i++)
+        expect("a wrong code", run_one(wrong[i], CIRCUIT_INSTRUCTION_NUMBERS, &output), 13, -1);
+    expect("a code of five numbers an instruction", run_one(old, sizeof old / sizeof *old, &output), 13, -1);
+    same("output after refusals", output, 9);
+    expect("a selector's code", run_one(good, CIRCUIT_INSTRUCTION_NUMBERS, &output), 0, 1);
+    same("its output", output, 7);
+}
+
+static void selector(void) {
+    static const int32_t table[] = {3, 10, 0}, op_11[] = {3, 11, 0};
+    static const int32_t expected[] = {3, 1, 1, 0, 3, 10, 0, 1, 0, 2, 3, 9};
+    static const int32_t inputs[] = {0, INT32_MAX, INT32_MIN, 1, INT32_MAX, INT32_MIN, -1, 7, 8, INT32_MIN, 7, INT32_MAX};
+    static const int32_t samples[] = {INT32_MAX, INT32_MIN, 8, INT32_MAX};
+    static const int32_t controls[CIRCUIT_CONTROLS];
+    uint32_t counts[CIRCUIT_COUNTS] = {9, 9, 9, 9};
+    int32_t code[12], walked[4] = {9}, ran[4] = {9};
+    for (int i = 0; i < 12; i++)
+        code[i] = 9;
+    expect("op 11", circuit_check(op_11, 3, counts, CIRCUIT_COUNTS), 5, 0);
+    expect("a selector", circuit_check(table, 3, counts, CIRCUIT_COUNTS), 0, 4);
+    for (int i = 0; i < CIRCUIT_COUNTS; i++)
+        same("its counts", (int32_t)counts[i], expected[i]);
+    expect("its translation", circuit_translate(table, 3, code, 12), 0, 11);
+    for (int i = 0; i < 12; i++)
+        same("its code", code[i], expected[i]);
+    expect("its walk", circuit_walk(table, 3, 4, inputs, 12, controls, 16, NULL, 0, walked, 4), 0, 4);
+    expect("its run", circuit_run(code, 11, 4, inputs, 12, controls, 16, NULL, 0, ran, 4), 0, 4);
+    for (int i = 0; i < 4; i++) {
+        same("walked", walked[i], samples[i]);
+        same("ran", ran[i], samples[i]);
+    }
+}
+
 int main(void) {
     empty_buffers();
     long_lengths();
     counts_and_refusals();
+    codes_of_a_selector();
+    selector();
     return failures != 0;
 }

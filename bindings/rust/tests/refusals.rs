@@ -1,7 +1,9 @@
 //! Every refusal by number and place; a refused call writes nothing; empty slices.
-use circuit::{Refusal, CELLS, CODE_NUMBERS, CONTROLS};
+use circuit::{Refusal, CELLS, CODE_NUMBERS, CONTROLS, HEADER_NUMBERS, INSTRUCTION_NUMBERS};
 
 const INTEGRATOR: [i32; 9] = [3, 1, 0, 5, 0, 0, 11, 0, 1];
+/// The numbers of its code: three instructions, one output.
+const INTEGRATOR_CODE: usize = HEADER_NUMBERS + 3 * INSTRUCTION_NUMBERS + 1;
 const SILENT: [i32; CONTROLS] = [0; CONTROLS];
 
 fn refusal<T>(number: u32, place: i32) -> Result<T, Refusal> {
@@ -83,7 +85,9 @@ fn nodes() {
     assert_eq!(unchecked(&[[5, 0, 0], [13, 0, 0]]), refusal(4, 1));
     assert_eq!(unchecked(&[[-1, 0, 0]]), refusal(4, 0));
     assert_eq!(unchecked(&[[2, 16, 0]]), refusal(5, 0));
-    assert_eq!(unchecked(&[[3, 10, 0]]), refusal(5, 0));
+    assert_eq!(unchecked(&[[3, 0, 0]]), refusal(5, 0));
+    assert_eq!(unchecked(&[[3, 11, 0]]), refusal(5, 0));
+    assert_eq!(unchecked(&[[3, 10, 1]]), refusal(5, 0));
     assert_eq!(unchecked(&[[4, 4096, 0]]), refusal(5, 0));
     assert_eq!(unchecked(&[[5, 0, 1]]), refusal(5, 0));
     assert_eq!(unchecked(&[[5, 0, 0], [12, 1, 0]]), refusal(6, 1));
@@ -127,7 +131,7 @@ fn widths_and_sizes() {
     let (mut code, mut cells) = ([9; CODE_NUMBERS], [9; CELLS]);
     assert_eq!(
         circuit::translate(&nested(31).concat(), &mut code),
-        Ok(4 + 5 * (32 + 31 * 65) + 32)
+        Ok(HEADER_NUMBERS + INSTRUCTION_NUMBERS * (32 + 31 * 65) + 32)
     );
     code = [9; CODE_NUMBERS];
     assert_eq!(
@@ -143,8 +147,11 @@ fn widths_and_sizes() {
 
 #[test]
 fn codes_and_blocks() {
-    let mut code = [0; 20];
-    assert_eq!(circuit::translate(&INTEGRATOR, &mut code), Ok(20));
+    let mut code = [0; INTEGRATOR_CODE];
+    assert_eq!(
+        circuit::translate(&INTEGRATOR, &mut code),
+        Ok(INTEGRATOR_CODE)
+    );
     let run =
         |code: &[i32], ticks, inputs: &[i32], controls: &[i32], cells: usize, outputs: usize| {
             let (mut lent, mut written) = ([9; 3], [9; 3]);
@@ -159,7 +166,10 @@ fn codes_and_blocks() {
             assert!(answer.is_ok() || (lent, written) == ([9; 3], [9; 3]));
             answer
         };
-    assert_eq!(run(&code[..19], 2, &[1, 2], &SILENT, 1, 2), refusal(13, -1));
+    assert_eq!(
+        run(&code[..INTEGRATOR_CODE - 1], 2, &[1, 2], &SILENT, 1, 2),
+        refusal(13, -1)
+    );
     assert_eq!(run(&code, 4097, &[1, 2], &SILENT, 1, 2), refusal(14, -1));
     assert_eq!(run(&code, 2, &[1], &SILENT, 1, 2), refusal(14, -1));
     assert_eq!(run(&code, 2, &[1, 2], &SILENT[1..], 0, 0), refusal(14, -1));
@@ -168,13 +178,76 @@ fn codes_and_blocks() {
     assert_eq!(run(&code, 2, &[1, 2], &SILENT, 3, 3), Ok(2));
 }
 
+/// The runner's answer to a code of three inputs, one instruction and its register as output, on two cells for one tick.
+fn ran(instruction: &[i32]) -> Result<usize, Refusal> {
+    let code = [&[3, 1, 1, 2], instruction, &[3]].concat();
+    let (mut cells, mut outputs) = ([9; 2], [9; 1]);
+    let answer = circuit::run(&code, 1, &[0, 7, 8], &SILENT, &mut cells, &mut outputs);
+    assert!(answer.is_ok() || (cells, outputs) == ([9; 2], [9; 1]));
+    answer
+}
+
+/// E4: "every instruction has six numbers, the sixth 0 except for op 10, where it is the third input register; the fifth
+/// of code 3 stays 0". Register 3 is the instruction's own.
+#[test]
+fn codes_of_a_selector() {
+    assert_eq!(ran(&[3, 10, 0, 1, 0, 2]), Ok(1));
+    assert_eq!(ran(&[3, 10, 2, 2, 0, 0]), Ok(1));
+    for wrong in [
+        [3, 10, 3, 1, 0, 2],
+        [3, 10, 0, 3, 0, 2],
+        [3, 10, 0, 1, 0, 3],
+        [3, 10, 0, 1, 0, -1],
+        [3, 10, 0, 1, 2, 0],
+        [3, 10, 0, 1, 1, 2],
+        [3, 0, 0, 1, 0, 2],
+        [3, 11, 0, 1, 0, 0],
+        [3, 11, 0, 1, 0, 2],
+    ] {
+        assert_eq!(ran(&wrong), refusal(13, -1), "{wrong:?}");
+    }
+}
+
+#[test]
+fn sixth_numbers() {
+    let others = [
+        [1, 7, 0, 0, 0, 0],
+        [2, 15, 0, 0, 0, 0],
+        [4, 0, 1, 0, 1, 0],
+        [5, 1, 0, 0, 0, 0],
+        [6, 1, 2, 0, 0, 0],
+        [7, 0, 0, 0, 0, 0],
+    ];
+    let second = |op| if op < 8 { 1 } else { 0 };
+    let operations = (1..=9).map(|op| [3, op, 0, second(op), 0, 0]);
+    for good in operations.chain(others) {
+        assert_eq!(ran(&good), Ok(1), "{good:?}");
+        for sixth in [1, 2, -1, i32::MIN] {
+            let mut wrong = good;
+            wrong[INSTRUCTION_NUMBERS - 1] = sixth;
+            assert_eq!(ran(&wrong), refusal(13, -1), "{wrong:?}");
+        }
+    }
+}
+
+/// Code as it was before E4, five numbers an instruction: an addition, and the integrator.
+#[test]
+fn old_codes() {
+    assert_eq!(ran(&[3, 1, 0, 1, 0]), refusal(13, -1));
+    let integrator = [1, 1, 3, 1, 5, 0, 0, 0, 0, 3, 1, 1, 0, 0, 6, 0, 2, 0, 0, 2];
+    assert_eq!(
+        circuit::run(&integrator, 1, &[1], &SILENT, &mut [9], &mut [9]),
+        refusal(13, -1)
+    );
+}
+
 #[test]
 fn short_buffers() {
     let file = line("0", "5", "0", "0");
     assert_eq!(circuit::read(file.as_bytes(), &mut [9; 2]), refusal(12, -1));
     assert_eq!(circuit::write(&INTEGRATOR, &mut [9; 122]), refusal(12, -1));
     assert_eq!(
-        circuit::translate(&INTEGRATOR, &mut [9; 19]),
+        circuit::translate(&INTEGRATOR, &mut [9; INTEGRATOR_CODE - 1]),
         refusal(12, -1)
     );
     assert_eq!(circuit::load(3, &mut [9; 2]), refusal(12, -1));

@@ -1,11 +1,16 @@
-//! The document's samples and those of E1, through walker and runner, in one call and tick by tick.
-use circuit::{Counts, Refusal, CELLS, CODE_NUMBERS, CONTROLS, FILE_BYTES, TABLE_NUMBERS};
+//! The document's samples, those of E1 and selectors, through walker and runner, in one call and tick by tick.
+use circuit::{
+    Counts, Refusal, CELLS, CODE_NUMBERS, CONTROLS, FILE_BYTES, HEADER_NUMBERS,
+    INSTRUCTION_NUMBERS, TABLE_NUMBERS,
+};
 
 type Node = [i32; 3];
 
 const CABLE: Node = [5, 0, 0];
 const ADD: Node = [3, 1, 0];
+const SUBTRACT: Node = [3, 2, 0];
 const MULTIPLY: Node = [3, 3, 0];
+const SELECT: Node = [3, 10, 0];
 
 /// The outputs of some ticks, in blocks of `block`: the walker's, which are the runner's, and the cells of both.
 fn played(nodes: &[Node], ticks: usize, inputs: &[i32], block: usize) -> Vec<i32> {
@@ -167,7 +172,7 @@ fn clocks() {
 /// E1: "Our engineers take clocks from differences": 2, 0, -3, 0, and 0 - -2147483648, which wraps.
 #[test]
 fn clock_of_a_difference() {
-    let difference = [[3, 2, 0], CABLE, [8, 0, 1]];
+    let difference = [SUBTRACT, CABLE, [8, 0, 1]];
     let integrator = [ADD, CABLE, [11, 3, 4], [12, 5, 0]];
     let inputs = [[5, 3, 5], [4, 4, 6], [4, 7, 7], [2, 2, 8], [0, i32::MIN, 9]];
     sample(
@@ -175,6 +180,81 @@ fn clock_of_a_difference() {
         5,
         &inputs.concat(),
         &[5, 5, 12, 12, 21],
+    );
+}
+
+/// E4: "it gives the second when the first is 0, otherwise the third".
+#[test]
+fn selector() {
+    const ENDS: [[i32; 2]; 2] = [[i32::MAX, i32::MIN], [i32::MIN, i32::MAX]];
+    let (mut inputs, mut expected) = (Vec::new(), Vec::new());
+    for first in [0, 1, -1, 2, i32::MAX, i32::MIN] {
+        for [second, third] in [[7, 8], [0, -1]].into_iter().chain(ENDS) {
+            inputs.extend([first, second, third]);
+            expected.push(if first == 0 { second } else { third });
+        }
+    }
+    sample(&[SELECT], expected.len(), &inputs, &expected);
+}
+
+#[test]
+fn code_of_a_selector() {
+    assert_eq!(
+        circuit::check(&SELECT),
+        Ok(Counts {
+            inputs: 3,
+            outputs: 1,
+            instructions: 1,
+            cells: 0
+        })
+    );
+    let mut code = [9; 12];
+    assert_eq!(circuit::translate(&SELECT, &mut code), Ok(11));
+    assert_eq!(code, [3, 1, 1, 0, 3, 10, 0, 1, 0, 2, 3, 9]);
+    let mut short = [9; 10];
+    assert_eq!(
+        circuit::translate(&SELECT, &mut short),
+        Err(Refusal {
+            number: 12,
+            place: -1
+        })
+    );
+    assert_eq!(short, [9; 10]);
+}
+
+/// A selector in a recursion: where two inputs are equal it takes the third one, otherwise it holds what it gave last.
+/// The difference of 0 and -2147483648 wraps, and is not 0.
+#[test]
+fn sample_and_hold() {
+    // The held one, the difference, the input, twice; of these the difference, the input, the held one.
+    let left = [CABLE, SUBTRACT, CABLE, [8, 0, 1], [8, 3, 2]];
+    let routes = [
+        [6, 0, 0],
+        CABLE,
+        CABLE,
+        CABLE,
+        [6, 0, 0],
+        [6, 0, 0],
+        [8, 5, 6],
+        [8, 11, 7],
+        [8, 12, 8],
+        [8, 13, 9],
+        [8, 14, 10],
+    ];
+    let switch = [[9, 4, 15], SELECT, [7, 16, 17], CABLE, [11, 18, 19]];
+    let inputs = [
+        [1, 0, 5],
+        [3, 3, 6],
+        [0, i32::MIN, 7],
+        [i32::MIN, i32::MIN, i32::MIN],
+        [0, -1, 8],
+        [0, 0, i32::MAX],
+    ];
+    sample(
+        &[&left[..], &routes[..], &switch[..]].concat(),
+        6,
+        &inputs.concat(),
+        &[0, 6, 6, i32::MIN, i32::MIN, i32::MAX],
     );
 }
 
@@ -203,7 +283,10 @@ fn cells_at_the_limit() {
             cells: 16384
         })
     );
-    assert_eq!(circuit::translate(&delays(4), &mut code), Ok(28));
+    assert_eq!(
+        circuit::translate(&delays(4), &mut code),
+        Ok(HEADER_NUMBERS + 4 * INSTRUCTION_NUMBERS + 4)
+    );
     assert_eq!(
         circuit::walk(
             &delays(4),
@@ -276,12 +359,12 @@ fn files() {
     assert_eq!(circuit::write(&table[..9], &mut again), Ok(123));
     assert_eq!(again[..123], file[..]);
     assert_eq!(again[123], b'.');
-    let mut code = [9; 21];
-    assert_eq!(circuit::translate(&table[..9], &mut code), Ok(20));
-    assert_eq!(
-        code,
-        [1, 1, 3, 1, 5, 0, 0, 0, 0, 3, 1, 1, 0, 0, 6, 0, 2, 0, 0, 2, 9]
-    );
+    let mut code = [9; 24];
+    assert_eq!(circuit::translate(&table[..9], &mut code), Ok(23));
+    assert_eq!(code[..4], [1, 1, 3, 1]);
+    let instructions = [[5, 0, 0, 0, 0, 0], [3, 1, 1, 0, 0, 0], [6, 0, 2, 0, 0, 0]];
+    assert_eq!(code[4..22], instructions.concat());
+    assert_eq!(code[22..], [2, 9]);
 }
 
 #[test]
