@@ -38,7 +38,7 @@ fn main() {
     let engine = format!("{}/libcircuit.a", folder.display());
 
     let object = format!("{out}/interpreter.o");
-    let flags = "-std=c11 -O2 -ffunction-sections -Wall -Wextra -Werror -c interpreter.c -o";
+    let flags = "-std=c11 -O2 -ffunction-sections -Wall -Wextra -Werror -I../bindings/c -c interpreter.c -o";
     let words: Vec<&str> = flags.split(' ').chain([object.as_str()]).collect();
     run("gcc", &words);
 
@@ -50,7 +50,12 @@ fn main() {
         run("ar", &["crs", &archive, &runner, &interpreter]);
     }
     println!("cargo::rerun-if-env-changed=CIRCUIT_LIB");
-    for file in ["build.rs", "interpreter.c", &engine] {
+    for file in [
+        "build.rs",
+        "interpreter.c",
+        "../bindings/c/circuit.h",
+        &engine,
+    ] {
         println!("cargo::rerun-if-changed={file}");
     }
     println!("cargo::rustc-link-search=native={out}");

@@ -1,24 +1,27 @@
 // A hand-written interpreter of flat code. It tests nothing: the code has passed the check and the buffers fit.
 // The code is decoded once a call, so that one switch serves both the code and the op of an instruction.
-// (A switch over the five numbers as they stand, with a second one over the op, was slower where operations abound.)
+// (A switch over the numbers as they stand, with a second one over the op, was slower where operations abound.)
+#include "circuit.h"
+
 #include <stddef.h>
 #include <stdint.h>
 #include <string.h>
 
-enum { WIDTH = 5, HEADER = 4, INSTRUCTIONS = 2048, REGISTERS = 32 + INSTRUCTIONS };
+enum { REGISTERS = CIRCUIT_WIDTH + CIRCUIT_INSTRUCTIONS };
 
 enum { NUMBER = 1, CONTROL, OPERATION, DELAY, READ, WRITE, SKIP, OPS = SKIP };
 
-enum { ADD = OPS + 1, SUBTRACT, MULTIPLY, QUOTIENT, REMAINDER, LESS, EQUAL, ABSOLUTE, NEGATE };
+enum { ADD = OPS + 1, SUBTRACT, MULTIPLY, QUOTIENT, REMAINDER, LESS, EQUAL, ABSOLUTE, NEGATE, SELECT };
 
 struct instruction {
     uint32_t what, a, b, c, d;
 };
 
+// The third register of an operation is the sixth number, 0 but for a selector.
 static void decode(const uint32_t *x, uint32_t count, struct instruction *to) {
-    for (uint32_t i = 0; i < count; i++, x += WIDTH, to++) {
+    for (uint32_t i = 0; i < count; i++, x += CIRCUIT_INSTRUCTION_NUMBERS, to++) {
         if (x[0] == OPERATION)
-            *to = (struct instruction){OPS + x[1], x[2], x[3], 0, 0};
+            *to = (struct instruction){OPS + x[1], x[2], x[3], x[5], 0};
         else
             *to = (struct instruction){x[0], x[1], x[2], x[3], x[4]};
     }
@@ -30,6 +33,11 @@ static uint32_t quotient(int32_t a, int32_t b) {
 
 static uint32_t modulo(int32_t a, int32_t b) {
     return b == 0 || b == -1 ? 0 : (uint32_t)(a % b);
+}
+
+// Both values are at hand, so that the compiler needs no jump.
+static uint32_t selected(uint32_t first, uint32_t second, uint32_t third) {
+    return first == 0 ? second : third;
 }
 
 static uint32_t delay(uint32_t *line, uint32_t d, uint32_t input, uint32_t amount) {
@@ -71,6 +79,7 @@ static void tick(const struct instruction *x, const struct instruction *end, con
         case EQUAL: *own = r[x->a] == r[x->b]; break;
         case ABSOLUTE: *own = (int32_t)r[x->a] < 0 ? 0 - r[x->a] : r[x->a]; break;
         case NEGATE: *own = 0 - r[x->a]; break;
+        case SELECT: *own = selected(r[x->a], r[x->b], r[x->c]); break;
         }
     }
 }
@@ -79,10 +88,10 @@ static void tick(const struct instruction *x, const struct instruction *end, con
 int run_c(const uint32_t *code, uint32_t ticks, const uint32_t *inputs, const uint32_t *controls,
           uint32_t *cells, uint32_t *outputs) {
     uint32_t n = code[0], m = code[1], count = code[2];
-    const uint32_t *results = code + HEADER + (size_t)WIDTH * count;
-    struct instruction program[INSTRUCTIONS];
+    const uint32_t *results = code + CIRCUIT_HEADER_NUMBERS + (size_t)CIRCUIT_INSTRUCTION_NUMBERS * count;
+    struct instruction program[CIRCUIT_INSTRUCTIONS];
     uint32_t registers[REGISTERS];
-    decode(code + HEADER, count, program);
+    decode(code + CIRCUIT_HEADER_NUMBERS, count, program);
     for (uint32_t t = 0; t < ticks; t++) {
         for (uint32_t i = 0; i < n; i++)
             registers[i] = *inputs++;

@@ -1,6 +1,6 @@
 //! A circuit made ready to run, and the implementations that run it.
 use crate::circuits::Circuit;
-use crate::engine::{self, Block, Counts};
+use crate::engine::{self, Block, Counts, HEADER_NUMBERS, INSTRUCTION_NUMBERS};
 use crate::interpreter;
 use crate::random::Random;
 
@@ -19,7 +19,8 @@ pub struct Case {
 impl Case {
     pub fn new(circuit: Circuit) -> Case {
         let counts = engine::check(&circuit.table);
-        let mut code = vec![0; 4 + 5 * counts.instructions + counts.outputs];
+        let instructions = INSTRUCTION_NUMBERS * counts.instructions;
+        let mut code = vec![0; HEADER_NUMBERS + instructions + counts.outputs];
         assert_eq!(engine::translate(&circuit.table, &mut code), code.len());
         let mut inputs = Random::new(7).words(TICKS * counts.inputs);
         for tick in inputs.chunks_mut(counts.inputs.max(1)) {

@@ -1,5 +1,10 @@
 //! The entries of the proved engine and of the C interpreter, over slices.
 
+/// Numbers of a code's header: inputs, outputs, instructions, cells.
+pub const HEADER_NUMBERS: usize = 4;
+/// Numbers of an instruction.
+pub const INSTRUCTION_NUMBERS: usize = 6;
+
 unsafe extern "C" {
     fn circuit_read(file: *const u8, n: usize, table: *mut u32, m: usize) -> u64;
     fn circuit_check(table: *const u32, n: usize, counts: *mut u32, m: usize) -> u64;

@@ -1,9 +1,7 @@
 //! The same interpreter in safe Rust: flat code, decoded once a call, then one match an instruction.
-use crate::engine::Block;
-use std::hint::black_box;
+use crate::engine::{Block, HEADER_NUMBERS, INSTRUCTION_NUMBERS};
+use std::hint::{black_box, select_unpredictable};
 
-const WIDTH: usize = 5;
-const HEADER: usize = 4;
 const REGISTERS: usize = 32 + 2048;
 
 #[derive(Clone, Copy)]
@@ -19,6 +17,7 @@ enum Instruction {
     Equal(usize, usize),
     Absolute(usize),
     Negate(usize),
+    Select(usize, usize, usize),
     Delay(usize, usize, usize, usize),
     Read(usize),
     Write(usize, usize),
@@ -39,7 +38,8 @@ fn decode(x: &[u32]) -> Instruction {
         (3, 6) => Less(b, c),
         (3, 7) => Equal(b, c),
         (3, 8) => Absolute(b),
-        (3, _) => Negate(b),
+        (3, 9) => Negate(b),
+        (3, _) => Select(b, c, x[5] as usize),
         (4, _) => Delay(a, b, c, d),
         (5, _) => Read(a),
         (6, _) => Write(a, b),
@@ -108,6 +108,8 @@ fn tick(
             Equal(a, b) => u32::from(r[a] == r[b]),
             Absolute(a) => (r[a] as i32).unsigned_abs(),
             Negate(a) => r[a].wrapping_neg(),
+            // without a jump, as in C
+            Select(a, b, c) => select_unpredictable(r[a] == 0, r[b], r[c]),
             Delay(a, b, cell, d) => delay(&mut cells[cell..=cell + d], r[a], r[b]),
             Read(cell) => cells[cell],
             Write(cell, a) => {
@@ -135,8 +137,9 @@ pub fn run<const COPY: usize>(
 ) -> usize {
     black_box(COPY);
     let [n, m, count] = [0, 1, 2].map(|i| code[i] as usize);
-    let (instructions, results) = code[HEADER..].split_at(WIDTH * count);
-    let program: Vec<Instruction> = instructions.chunks_exact(WIDTH).map(decode).collect();
+    let (instructions, results) = code[HEADER_NUMBERS..].split_at(INSTRUCTION_NUMBERS * count);
+    let instructions = instructions.chunks_exact(INSTRUCTION_NUMBERS);
+    let program: Vec<Instruction> = instructions.map(decode).collect();
     let mut r = [0; REGISTERS];
     for t in 0..block.ticks {
         r[..n].copy_from_slice(&block.inputs[t * n..][..n]);
