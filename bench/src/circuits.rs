@@ -36,6 +36,10 @@ impl Builder {
         self.node(5, 0, 0)
     }
 
+    pub fn cut(&mut self) -> u32 {
+        self.node(6, 0, 0)
+    }
+
     pub fn sequence(&mut self, left: u32, right: u32) -> u32 {
         self.node(7, left, right)
     }
@@ -70,6 +74,14 @@ impl Builder {
         let add = self.operation(1);
         let feedback = self.with_number(1_103_515_245, |b| b.operation(3));
         self.recursion(add, feedback)
+    }
+
+    /// Of a beam t u v, three times, makes t < u, u + v, and u or v by t, with a selector; nine nodes.
+    fn selector(&mut self) -> u32 {
+        let (less, add, select) = (self.operation(6), self.operation(1), self.operation(10));
+        let parts = [less, self.cut(), self.cut(), add, select].into_iter();
+        let beside = |left, right| self.parallel(left, right);
+        parts.reduce(beside).expect("five parts")
     }
 
     /// A balanced sequence of so many one-pole filters.
@@ -128,6 +140,23 @@ pub fn nest(clock: u32) -> Circuit {
     circuit(name, b.table, 8, clock)
 }
 
+/// Selectors in a row, 10 nodes for each, on three inputs. The first of each is the sign of a sum that the others before
+/// it have made, 0 about half of the time; `steady` with the same inputs, hence the same signs, at every tick.
+pub fn selectors(steady: bool) -> Circuit {
+    let mut b = Builder::default();
+    let (t, u, v) = (b.cable(), b.cable(), b.cable());
+    let both = b.parallel(t, u);
+    let mut row = b.parallel(both, v);
+    for _ in 0..50 {
+        let selector = b.selector();
+        row = b.node(9, row, selector);
+    }
+    match steady {
+        true => circuit("50 selectors, steady", b.table, 3, 1_103_515_245),
+        false => circuit("50 selectors, varied", b.table, 0, 0),
+    }
+}
+
 /// One-pole filters in a row inside an ondemand that is always busy; 8 nodes for each filter.
 pub fn family(nodes: usize) -> Circuit {
     let mut b = Builder::default();
@@ -137,7 +166,7 @@ pub fn family(nodes: usize) -> Circuit {
     circuit(&format!("{} filters", nodes / 8), b.table, 1, 1)
 }
 
-/// An accepted table of 512 nodes with all kinds.
+/// An accepted table of 512 nodes with all kinds and ops.
 pub fn random(seed: u64) -> Circuit {
     let table = table_of(512, &mut Random::new(seed));
     circuit(&format!("random {seed}"), table, 0, 0)
@@ -145,6 +174,14 @@ pub fn random(seed: u64) -> Circuit {
 
 /// The circuits on which runner, walker and the other interpreters are compared.
 pub fn all() -> Vec<Circuit> {
-    let named = [integrator(), delay_line(), nest(0), nest(1), family(512)];
+    let named = [
+        integrator(),
+        delay_line(),
+        nest(0),
+        nest(1),
+        selectors(true),
+        selectors(false),
+        family(512),
+    ];
     named.into_iter().chain((1..=4).map(random)).collect()
 }

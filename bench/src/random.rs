@@ -1,6 +1,6 @@
 //! Random tables and random codes.
 use crate::circuits::Builder;
-use crate::engine;
+use crate::engine::{self, INSTRUCTION_NUMBERS};
 
 /// Xorshift with a multiplication (xorshift64*).
 pub struct Random(u64);
@@ -45,7 +45,7 @@ impl Generator<'_> {
     /// A primitive that takes at most a inputs and gives at most b outputs, with both counts.
     fn leaf(&mut self, a: u32, b: u32) -> (u32, u32, u32) {
         if b == 0 {
-            return (self.builder.node(6, 0, 0), 1, 0);
+            return (self.builder.cut(), 1, 0);
         }
         if a == 0 {
             let slot = self.random.below(16);
@@ -53,6 +53,9 @@ impl Generator<'_> {
             let control = self.random.below(4) == 0;
             let (kind, first) = if control { (2, slot) } else { (1, value) };
             return (self.builder.node(kind, first, 0), 0, 1);
+        }
+        if a > 2 && self.random.below(8) == 0 {
+            return (self.builder.operation(10), 3, 1);
         }
         if a > 1 && self.random.below(4) > 0 {
             let (op, d) = (self.random.between(1, 7), self.random.below(256));
@@ -81,7 +84,7 @@ impl Generator<'_> {
             (a, b) = (a - i, b - o);
         }
         all.unwrap_or_else(|| {
-            let (number, cut) = (self.builder.number(0), self.builder.node(6, 0, 0));
+            let (number, cut) = (self.builder.number(0), self.builder.cut());
             self.builder.sequence(number, cut)
         })
     }
@@ -144,12 +147,14 @@ impl Generator<'_> {
     }
 }
 
-/// Does the table have so many nodes, all kinds, and a translation within the limits?
+/// Does the table have so many nodes, all kinds and ops, and a translation within the limits?
 fn fits(table: &[u32], nodes: usize) -> bool {
     let all_kinds = (1..=12).all(|kind| table.chunks(3).any(|node| node[0] == kind));
+    let all_ops = (1..=10).all(|op| table.chunks(3).any(|node| node[..2] == [3, op]));
     let mut counts = [0; 4];
     table.len() == 3 * nodes
         && all_kinds
+        && all_ops
         && engine::check_raw(table, &mut counts) >> 32 == 0
         && counts[2] <= 2048
         && counts[3] <= 16384
@@ -171,20 +176,21 @@ pub fn table_of(nodes: usize, random: &mut Random) -> Vec<u32> {
 }
 
 /// An instruction that may stand where `own` is its register, `left` more follow and there are so many cells.
-fn instruction(random: &mut Random, own: u32, left: u32, cells: u32) -> [u32; 5] {
-    let (a, b) = (random.below(own), random.below(own));
+fn instruction(random: &mut Random, own: u32, left: u32, cells: u32) -> [u32; INSTRUCTION_NUMBERS] {
+    let [a, b, c] = [0; 3].map(|_| random.below(own));
     let cell = random.below(cells);
     match random.between(1, 7) {
-        1 => [1, random.edge(), 0, 0, 0],
-        2 => [2, random.below(16), 0, 0, 0],
-        3 => {
-            let op = random.between(1, 9);
-            [3, op, a, if op < 8 { b } else { 0 }, 0]
-        }
-        4 => [4, a, b, cell, random.below((cells - cell).min(8))],
-        5 => [5, cell, 0, 0, 0],
-        6 => [6, cell, a, 0, 0],
-        _ => [7, a, random.below(left + 1), 0, 0],
+        1 => [1, random.edge(), 0, 0, 0, 0],
+        2 => [2, random.below(16), 0, 0, 0, 0],
+        3 => match random.between(1, 10) {
+            10 => [3, 10, a, b, 0, c],
+            op if op < 8 => [3, op, a, b, 0, 0],
+            op => [3, op, a, 0, 0, 0],
+        },
+        4 => [4, a, b, cell, random.below((cells - cell).min(8)), 0],
+        5 => [5, cell, 0, 0, 0, 0],
+        6 => [6, cell, a, 0, 0, 0],
+        _ => [7, a, random.below(left + 1), 0, 0, 0],
     }
 }
 
