@@ -1,7 +1,7 @@
 //! The check of a table: refusals 3 to 9 in the document's order, and the counts.
 
 use crate::engine::{Counts, Refusal};
-use crate::samples::OPERANDS;
+use crate::samples::operands;
 
 /// "It has 1 to 512 nodes."
 pub const MOST_NODES: usize = 512;
@@ -115,7 +115,8 @@ fn fields_fit(node: &Node) -> bool {
     match node.kind {
         1 => node.second == 0,
         2 => node.first <= 15 && node.second == 0,
-        3 => (1..=9).contains(&node.first) && node.second == 0,
+        // E4: "Kind 3 and code 3 accept ops 1 to 10"
+        3 => operands(node.first).is_some() && node.second == 0,
         4 => node.first <= 4095 && node.second == 0,
         5 | 6 => node.first == 0 && node.second == 0,
         12 => node.second == 0,
@@ -128,7 +129,7 @@ fn rule(node: &Node, arities: &[Arity]) -> Option<Arity> {
     let some = |inputs, outputs| Some(Arity { inputs, outputs });
     match node.kind {
         1 | 2 => return some(0, 1),
-        3 => return some(OPERANDS[node.first as usize], 1),
+        3 => return some(operands(node.first)?, 1),
         4 => return some(2, 1),
         5 => return some(1, 1),
         6 => return some(1, 0),

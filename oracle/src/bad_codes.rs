@@ -3,10 +3,10 @@
 
 use crate::arity::check;
 use crate::circuits::sample;
-use crate::flat;
+use crate::flat::{self, length, Instruction, HEADER, INPUTS, WIDTH};
 use crate::good_cases::{block, circuit, controls, inputs, more, Circuit};
 use crate::random::Random;
-use crate::samples::OPERANDS;
+use crate::samples::{operands, ops};
 use crate::script::Command;
 use crate::translate;
 
@@ -23,7 +23,8 @@ pub fn bad_code_case(random: &mut Random) -> Vec<Command> {
     for _ in 0..1 + random.below(3) {
         let mut bad = code.clone();
         damage(random, &mut bad);
-        if random.percent(10) && bad.len() > 9 && bad.starts_with(&code[..4]) {
+        let whole = bad.len() > HEADER + WIDTH && bad.starts_with(&code[..HEADER]);
+        if whole && random.percent(10) {
             damage(random, &mut bad);
         }
         run(random, &good, bad, &mut case);
@@ -91,11 +92,11 @@ const UNUSED: [&[usize]; 8] = [
 /// One clause of row 13, or something near it that passes.
 fn damage(random: &mut Random, code: &mut Vec<u32>) {
     let (n, c) = (code[0] as usize, code[2] as usize);
-    if c == 0 || code.len() < 4 + 5 * c || random.percent(20) {
+    if c == 0 || code.len() < length(c, 0) || random.percent(20) {
         return damage_frame(random, code);
     }
     let i = random.below(c);
-    let at = 4 + 5 * i;
+    let at = length(i, 0);
     let spot = Spot {
         kind: (code[at] as usize).min(7),
         own: (n + i) as i32,
@@ -149,7 +150,7 @@ fn damage_frame(random: &mut Random, code: &mut Vec<u32>) {
     let outs = code.len() - m;
     match random.below(8) {
         0 | 1 => {
-            let field = random.below(4);
+            let field = random.below(HEADER);
             let most = [32, 32, 2048, 16384][field];
             let now = code[field] as i32;
             let values = [-1, most + 1, most, now + 1, now - 1, i32::MIN, i32::MAX];
@@ -172,8 +173,7 @@ pub fn random_code(random: &mut Random) -> Vec<u32> {
     let (c, cells) = (1 + random.below(14), random.below(12));
     let mut code: Vec<u32> = [n, m, c, cells].map(|w| w as u32).to_vec();
     for i in 0..c {
-        let five = random_instruction(random, n + i, c - i - 1, cells);
-        code.extend(five);
+        code.extend(random_instruction(random, n + i, c - i - 1, cells));
     }
     for _ in 0..m {
         code.push(random.below(n + c) as u32);
@@ -181,27 +181,33 @@ pub fn random_code(random: &mut Random) -> Vec<u32> {
     code
 }
 
-fn random_instruction(random: &mut Random, own: usize, left: usize, cells: usize) -> [u32; 5] {
+fn random_instruction(random: &mut Random, own: usize, left: usize, cells: usize) -> Instruction {
     let register = |random: &mut Random| random.below(own) as u32;
     let cell = |random: &mut Random| random.below(cells) as u32;
     match random.below(12) {
-        0 | 1 if own > 0 => {
-            let op = random.within(1, 9) as u32;
-            let two = OPERANDS[op as usize] == 2;
-            let first = register(random);
-            [3, op, first, if two { register(random) } else { 0 }, 0]
-        }
+        0 | 1 if own > 0 => random_operation(random, own),
         2 | 3 if own > 0 && cells > 0 => {
             let first = random.below(cells);
             let d = random.below(cells - first) as u32;
-            [4, register(random), register(random), first as u32, d]
+            [4, register(random), register(random), first as u32, d, 0]
         }
-        4 | 5 if cells > 0 => [5, cell(random), 0, 0, 0],
-        6 | 7 if own > 0 && cells > 0 => [6, cell(random), register(random), 0, 0],
-        8 | 9 if own > 0 => [7, register(random), random.below(left + 1) as u32, 0, 0],
-        10 => [2, random.below(16) as u32, 0, 0, 0],
-        _ => [1, often(random, &[0, 1, 2, -1]), 0, 0, 0],
+        4 | 5 if cells > 0 => [5, cell(random), 0, 0, 0, 0],
+        6 | 7 if own > 0 && cells > 0 => [6, cell(random), register(random), 0, 0, 0],
+        8 | 9 if own > 0 => [7, register(random), random.below(left + 1) as u32, 0, 0, 0],
+        10 => [2, random.below(16) as u32, 0, 0, 0, 0],
+        _ => [1, often(random, &[0, 1, 2, -1]), 0, 0, 0, 0],
     }
+}
+
+/// Every op as often as the others.
+fn random_operation(random: &mut Random, own: usize) -> Instruction {
+    let op = random.pick(&ops().collect::<Vec<u32>>());
+    let mut six = [0; WIDTH];
+    six[..2].copy_from_slice(&[3, op]);
+    for &place in &INPUTS[..operands(op).expect("an op")] {
+        six[place] = random.below(own) as u32;
+    }
+    six
 }
 
 /// Random code on cells full of one number or cleared.

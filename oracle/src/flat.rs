@@ -1,19 +1,38 @@
 //! Flat code: its check (row 13) and an interpreter of it, for code that is not the
 //! translator's and for cells that no history has made.
 
+use crate::arity::MOST_WIRES;
 use crate::engine::{Counts, Refusal};
-use crate::samples::{amount, operate, OPERANDS};
+use crate::samples::{amount, operands, operate};
 
+/// "Header: inputs n, outputs m, instruction count c, cell count."
+pub const HEADER: usize = 4;
+/// E4: "every instruction has six numbers".
+pub const WIDTH: usize = 6;
 pub const MOST_INSTRUCTIONS: usize = 2048;
 pub const MOST_CELLS: usize = 16384;
+/// The numbers of the largest code.
+pub const MOST_CODE: usize = length(MOST_INSTRUCTIONS, MOST_WIRES);
+
+/// An instruction: its code and five operands.
+pub type Instruction = [u32; WIDTH];
+
+/// Where an operation's input registers stand. E4: "the sixth 0 except for op 10, where it is the
+/// third input register; the fifth of code 3 stays 0".
+pub const INPUTS: [usize; 3] = [2, 3, 5];
+
+/// E4: "The code length is 4+6c+m."
+pub const fn length(instructions: usize, outputs: usize) -> usize {
+    HEADER + WIDTH * instructions + outputs
+}
 
 /// The header of a code that passes row 13.
 pub fn check(code: &[u32]) -> Result<Counts, Refusal> {
     let counts = header(code).ok_or(Refusal::nowhere(13))?;
     let (n, c) = (counts.inputs as usize, counts.instructions as usize);
-    let good = code.len() == 4 + 5 * c + counts.outputs as usize
-        && (0..c).all(|i| instruction_fits(instruction(code, i), i, &counts))
-        && code[4 + 5 * c..].iter().all(|&r| (r as usize) < n + c);
+    let good = code.len() == length(c, counts.outputs as usize)
+        && (0..c).all(|i| instruction_fits(&instruction(code, i), i, &counts))
+        && outputs(code).iter().all(|&r| (r as usize) < n + c);
     if good {
         Ok(counts)
     } else {
@@ -23,9 +42,9 @@ pub fn check(code: &[u32]) -> Result<Counts, Refusal> {
 
 /// "header negative or above 32, 32, 2,048, 16,384"; a negative number is a large one here.
 fn header(code: &[u32]) -> Option<Counts> {
-    let head = code.get(..4)?;
-    let fits = head[0] <= 32
-        && head[1] <= 32
+    let head = code.get(..HEADER)?;
+    let fits = head[0] as usize <= MOST_WIRES
+        && head[1] as usize <= MOST_WIRES
         && head[2] as usize <= MOST_INSTRUCTIONS
         && head[3] as usize <= MOST_CELLS;
     fits.then(|| Counts {
@@ -36,28 +55,39 @@ fn header(code: &[u32]) -> Option<Counts> {
     })
 }
 
-pub fn instruction(code: &[u32], i: usize) -> &[u32] {
-    &code[4 + 5 * i..9 + 5 * i]
+pub fn instruction(code: &[u32], i: usize) -> Instruction {
+    let six = &code[length(i, 0)..length(i + 1, 0)];
+    six.try_into().expect("an instruction")
 }
 
-fn instruction_fits(five: &[u32], i: usize, counts: &Counts) -> bool {
-    let [a, b, c, d] = [five[1], five[2], five[3], five[4]];
+/// The output registers of a code.
+pub fn outputs(code: &[u32]) -> &[u32] {
+    &code[length(code[2] as usize, 0)..]
+}
+
+fn instruction_fits(six: &Instruction, i: usize, counts: &Counts) -> bool {
+    let [kind, a, b, c, d, e] = *six;
     // "a register negative or not below the instruction's own"
     let register = |r: u32| (r as usize) < counts.inputs as usize + i;
     let cell = |first: u32, many: u32| u64::from(first) + u64::from(many) <= counts.cells.into();
-    match five[0] {
-        1 => b == 0 && c == 0 && d == 0,
-        2 => a <= 15 && b == 0 && c == 0 && d == 0,
-        3 => {
-            let last = |two: bool| if two { register(c) } else { c == 0 };
-            (1..=9).contains(&a) && register(b) && last(OPERANDS[a as usize] == 2) && d == 0
-        }
+    let unused = |numbers: &[u32]| numbers.iter().all(|&number| number == 0);
+    match kind {
+        1 => unused(&[b, c, d, e]),
+        2 => a <= 15 && unused(&[b, c, d, e]),
+        3 => operands(a).is_some_and(|many| {
+            let (used, others) = INPUTS.split_at(many);
+            let free = others.iter().all(|&place| six[place] == 0);
+            used.iter().all(|&place| register(six[place])) && free && d == 0
+        }),
         // "a cell, each of a delay's D+1 included, outside the count"
-        4 => register(a) && register(b) && d <= 4095 && cell(c, d + 1),
-        5 => cell(a, 1) && b == 0 && c == 0 && d == 0,
-        6 => cell(a, 1) && register(b) && c == 0 && d == 0,
+        4 => register(a) && register(b) && d <= 4095 && cell(c, d + 1) && e == 0,
+        5 => cell(a, 1) && unused(&[b, c, d, e]),
+        6 => cell(a, 1) && register(b) && unused(&[c, d, e]),
         // "a skip count negative or past the end"
-        7 => register(a) && (b as usize) < counts.instructions as usize - i && c == 0 && d == 0,
+        7 => {
+            let left = counts.instructions as usize - i;
+            register(a) && (b as usize) < left && unused(&[c, d, e])
+        }
         _ => false,
     }
 }
@@ -78,9 +108,15 @@ pub fn interpret(
         registers.resize(n + c, 0);
         let mut i = 0;
         while i < c {
-            i += 1 + step(instruction(code, i), n + i, &mut registers, controls, cells);
+            i += 1 + step(
+                &instruction(code, i),
+                n + i,
+                &mut registers,
+                controls,
+                cells,
+            );
         }
-        for (j, &register) in code[4 + 5 * c..].iter().enumerate() {
+        for (j, &register) in self::outputs(code).iter().enumerate() {
             outputs[tick * m + j] = registers[register as usize];
         }
     }
@@ -88,20 +124,24 @@ pub fn interpret(
 
 /// One instruction; gives how many it skips.
 fn step(
-    five: &[u32],
+    six: &Instruction,
     own: usize,
     registers: &mut [u32],
     controls: &[u32],
     cells: &mut [u32],
 ) -> usize {
-    let [a, b, c] = [five[1] as usize, five[2] as usize, five[3] as usize];
-    registers[own] = match five[0] {
-        1 => five[1],
+    let [kind, a, b, c, d, _] = six.map(|number| number as usize);
+    registers[own] = match kind {
+        1 => six[1],
         2 => controls[a],
-        3 => operate(five[1], registers[b] as i32, registers[c] as i32) as u32,
+        3 => {
+            let many = operands(six[1]).expect("an op");
+            let inputs = INPUTS.map(|place| registers[six[place] as usize] as i32);
+            operate(six[1], &inputs[..many]) as u32
+        }
         4 => {
-            let (input, ago) = (registers[a], amount(registers[b] as i32, five[4]));
-            delay(&mut cells[c..=c + five[4] as usize], input, ago as usize)
+            let (input, ago) = (registers[a], amount(registers[b] as i32, six[4]));
+            delay(&mut cells[c..=c + d], input, ago as usize)
         }
         5 => cells[a],
         6 => {

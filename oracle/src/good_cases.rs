@@ -6,6 +6,7 @@ use crate::bad_tables::damaged;
 use crate::circuits::{build, ondemand, sample, table};
 use crate::clocks;
 use crate::engine::Counts;
+use crate::flat::length;
 use crate::graph::{Graph, Signal};
 use crate::random::Random;
 use crate::script::Command;
@@ -53,7 +54,8 @@ impl Circuit {
     }
 
     pub fn code_length(&self) -> usize {
-        4 + 5 * self.counts.instructions as usize + self.counts.outputs as usize
+        let counts = self.counts;
+        length(counts.instructions as usize, counts.outputs as usize)
     }
 }
 

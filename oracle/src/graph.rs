@@ -12,8 +12,8 @@ pub enum Signal {
     Number(i32),
     Control(usize),
     Input(usize),
-    /// A one-input op has its operand twice.
-    Operation(u32, Id, Id),
+    /// An op and as many signals as it takes.
+    Operation(u32, Vec<Id>),
     Delay {
         input: Id,
         amount: Id,
@@ -102,7 +102,7 @@ impl Graph {
         let signal = match node.kind {
             1 => Signal::Number(node.first as i32),
             2 => Signal::Control(node.first as usize),
-            3 => Signal::Operation(node.first, ins[0], ins[ins.len() - 1]),
+            3 => Signal::Operation(node.first, ins.to_vec()),
             _ => {
                 let (input, d) = (ins[0], node.first);
                 self.memories[number] = Memory::Delay { time, input, d };
@@ -143,7 +143,7 @@ impl Graph {
             let terms: Vec<Id> = beam[i..].iter().copied().step_by(wanted).collect();
             let mut sum = terms[0];
             for &term in &terms[1..] {
-                sum = self.add(Signal::Operation(1, sum, term), time);
+                sum = self.add(Signal::Operation(1, vec![sum, term]), time);
             }
             sums.push(sum);
         }
@@ -208,8 +208,8 @@ impl Graph {
 
     /// The two sides of the differences and products among the clocks.
     pub fn sides(&self) -> Vec<&Signal> {
-        let sides = |clock: &Signal| match *clock {
-            Signal::Operation(2 | 3, x, y) => vec![self.outside(x), self.outside(y)],
+        let sides = |clock: &Signal| match clock {
+            Signal::Operation(2 | 3, sides) => sides.iter().map(|&x| self.outside(x)).collect(),
             _ => vec![],
         };
         self.clocks().into_iter().flat_map(sides).collect()

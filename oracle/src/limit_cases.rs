@@ -5,6 +5,7 @@ use crate::bad_tables::{too_wide, wide};
 use crate::circuits::{beside, cable, leaf, ondemand, pair, table, Tree};
 use crate::clocks::demand;
 use crate::column::text;
+use crate::flat::WIDTH;
 use crate::good_cases::Circuit;
 use crate::random::Random;
 use crate::script::Command;
@@ -122,7 +123,9 @@ fn header(random: &mut Random) -> Vec<Command> {
     counts[field] = [32, 32, 2048, 16384][field] + random.below(2);
     let [n, m, c, cells] = counts;
     let mut code: Vec<u32> = counts.iter().map(|&count| count as u32).collect();
-    code.extend([1, 0, 0, 0, 0].repeat(c));
+    let mut number = [0; WIDTH];
+    number[0] = 1;
+    code.extend(number.repeat(c));
     code.extend((0..m).map(|_| random.below(n + c) as u32));
     vec![
         Command::Memory(3),

@@ -99,9 +99,9 @@ impl Meaning {
                 self.controls[at][slot] as i32
             }
             Signal::Input(j) => self.inputs[tick as usize][j] as i32,
-            Signal::Operation(op, x, y) => {
-                let (x, y) = (self.value(x, tick), self.value(y, tick));
-                operate(op, x, y)
+            Signal::Operation(op, ins) => {
+                let ins: Vec<i32> = ins.iter().map(|&x| self.value(x, tick)).collect();
+                operate(op, &ins)
             }
             Signal::Delay {
                 input,

@@ -1,23 +1,38 @@
-//! Samples: "32-bit two's complement whole numbers", and the nine operations on them.
+//! Samples: "32-bit two's complement whole numbers", and the operations on them.
 
-/// How many inputs op 1 to 9 takes; place 0 is no op.
-pub const OPERANDS: [usize; 10] = [0, 2, 2, 2, 2, 2, 2, 2, 1, 1];
+/// How many inputs each op takes; place 0 is no op. What stands here is an op, and nothing else.
+/// E4: "op 10 with three inputs".
+const OPERANDS: [usize; 11] = [0, 2, 2, 2, 2, 2, 2, 2, 1, 1, 3];
 
-/// The table of ops. A one-input op looks at `x` only.
-pub fn operate(op: u32, x: i32, y: i32) -> i32 {
-    match op {
-        1 => x.wrapping_add(y),
-        2 => x.wrapping_sub(y),
-        3 => x.wrapping_mul(y),
-        4 if y == 0 => 0,
-        4 => x.wrapping_div(y),
-        5 if y == 0 || y == -1 => 0,
-        5 => x % y,
-        6 => i32::from(x < y),
-        7 => i32::from(x == y),
-        8 => x.wrapping_abs(),
-        9 => x.wrapping_neg(),
-        _ => panic!("no op {op}"),
+/// The ops, in order.
+pub fn ops() -> impl Iterator<Item = u32> {
+    1..OPERANDS.len() as u32
+}
+
+/// How many inputs an op takes; `None` for a number that is no op.
+pub fn operands(op: u32) -> Option<usize> {
+    let count = OPERANDS.get(op as usize).copied();
+    count.filter(|_| op != 0)
+}
+
+/// The table of ops, and E4's selector: "it gives the second when the first is 0, otherwise the
+/// third".
+pub fn operate(op: u32, inputs: &[i32]) -> i32 {
+    match (op, inputs) {
+        (1, [x, y]) => x.wrapping_add(*y),
+        (2, [x, y]) => x.wrapping_sub(*y),
+        (3, [x, y]) => x.wrapping_mul(*y),
+        (4, [_, 0]) => 0,
+        (4, [x, y]) => x.wrapping_div(*y),
+        (5, [_, 0 | -1]) => 0,
+        (5, [x, y]) => x % y,
+        (6, [x, y]) => i32::from(x < y),
+        (7, [x, y]) => i32::from(x == y),
+        (8, [x]) => x.wrapping_abs(),
+        (9, [x]) => x.wrapping_neg(),
+        (10, [0, y, _]) => *y,
+        (10, [_, _, z]) => *z,
+        _ => panic!("no op {op} of {} inputs", inputs.len()),
     }
 }
 

@@ -5,14 +5,13 @@ use crate::arity;
 use crate::column;
 use crate::engine::{Counts, Engine, Refusal};
 use crate::entries::{Block, Past};
+use crate::flat::{HEADER, MOST_CODE, WIDTH};
 use crate::programs::played;
 use crate::script::{list, Command};
 use crate::translate;
 
 /// "There are two memories of 17,000 cells each, one for walks and one for runs."
 const MEMORY: usize = 17000;
-/// The largest code has 4 + 5 x 2,048 + 32 numbers.
-const MOST_CODE: usize = 10276;
 
 type Answer = Result<u32, Refusal>;
 
@@ -243,13 +242,11 @@ impl Scene {
             Ok(length) => length as usize,
             Err(refusal) => return row(&[refusal.number, refusal.place as u32]),
         };
-        let end = 4 + 5 * code[2] as usize;
-        let mut text = row(&code[..4]);
-        code[4..end].chunks(5).for_each(|five| text += &row(five));
-        code[end..length]
-            .iter()
-            .for_each(|&one| text += &row(&[one]));
-        text
+        let (header, rest) = code[..length].split_at(HEADER);
+        let (instructions, outputs) = rest.split_at(WIDTH * header[2] as usize);
+        let lines = [header].into_iter();
+        let lines = lines.chain(instructions.chunks(WIDTH));
+        lines.chain(outputs.chunks(1)).map(row).collect()
     }
 }
 

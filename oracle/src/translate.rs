@@ -2,7 +2,7 @@
 
 use crate::arity::{check, first_cells, Checked, Node};
 use crate::engine::Refusal;
-use crate::flat::{MOST_CELLS, MOST_INSTRUCTIONS};
+use crate::flat::{Instruction, INPUTS, MOST_CELLS, MOST_INSTRUCTIONS, WIDTH};
 
 type Register = u32;
 
@@ -10,7 +10,7 @@ struct Translator<'a> {
     table: &'a [u32],
     checked: &'a Checked,
     cells: Vec<usize>,
-    instructions: Vec<[u32; 5]>,
+    instructions: Vec<Instruction>,
 }
 
 /// Header, instructions, output registers; without any limit on their count.
@@ -51,9 +51,19 @@ pub fn translate(table: &[u32], buffer: &mut [u32]) -> Result<u32, Refusal> {
 
 impl Translator<'_> {
     /// "instruction i writes register n+i"
-    fn place(&mut self, instruction: [u32; 5]) -> Register {
+    fn place(&mut self, instruction: Instruction) -> Register {
         self.instructions.push(instruction);
         self.checked.counts.inputs + self.instructions.len() as u32 - 1
+    }
+
+    /// "a one-input op has 0 for the last"; E4: "the sixth 0 except for op 10".
+    fn operation(&mut self, op: u32, ins: &[Register]) -> Register {
+        let mut six = [0; WIDTH];
+        six[..2].copy_from_slice(&[3, op]);
+        for (place, &register) in INPUTS.into_iter().zip(ins) {
+            six[place] = register;
+        }
+        self.place(six)
     }
 
     fn node(&mut self, number: usize, ins: Vec<Register>) -> Vec<Register> {
@@ -61,14 +71,10 @@ impl Translator<'_> {
         let cell = self.cells[number] as u32;
         let first = node.first;
         match node.kind {
-            1 => vec![self.place([1, first, 0, 0, 0])],
-            2 => vec![self.place([2, first, 0, 0, 0])],
-            // "a one-input op has 0 for the last"
-            3 => {
-                let second = ins.get(1).copied().unwrap_or(0);
-                vec![self.place([3, first, ins[0], second, 0])]
-            }
-            4 => vec![self.place([4, ins[0], ins[1], cell, first])],
+            1 => vec![self.place([1, first, 0, 0, 0, 0])],
+            2 => vec![self.place([2, first, 0, 0, 0, 0])],
+            3 => vec![self.operation(first, &ins)],
+            4 => vec![self.place([4, ins[0], ins[1], cell, first, 0])],
             5 => ins,
             6 => vec![],
             11 => self.recursion(&node, cell, ins),
@@ -97,7 +103,7 @@ impl Translator<'_> {
                 let mut beam = outs[..wanted].to_vec();
                 for (i, sum) in beam.iter_mut().enumerate() {
                     for term in (i + wanted..outs.len()).step_by(wanted) {
-                        *sum = self.place([3, 1, *sum, outs[term], 0]);
+                        *sum = self.operation(1, &[*sum, outs[term]]);
                     }
                 }
                 self.node(right, beam)
@@ -109,12 +115,14 @@ impl Translator<'_> {
     /// "q reads, right, left, q writes"
     fn recursion(&mut self, node: &Node, cell: u32, ins: Vec<Register>) -> Vec<Register> {
         let q = self.checked.arities[node.second as usize].inputs as u32;
-        let reads = (0..q).map(|j| self.place([5, cell + j, 0, 0, 0])).collect();
+        let reads = (0..q)
+            .map(|j| self.place([5, cell + j, 0, 0, 0, 0]))
+            .collect();
         let mut left = self.node(node.second as usize, reads);
         left.extend(ins);
         let outs = self.node(node.first as usize, left);
         for j in 0..q {
-            self.place([6, cell + j, outs[j as usize], 0, 0]);
+            self.place([6, cell + j, outs[j as usize], 0, 0, 0]);
         }
         outs
     }
@@ -122,14 +130,14 @@ impl Translator<'_> {
     /// "Ondemand: skip, body, writes inside the skip, then as many reads."
     fn ondemand(&mut self, node: &Node, cell: u32, ins: Vec<Register>) -> Vec<Register> {
         let skip = self.instructions.len();
-        self.place([7, ins[0], 0, 0, 0]);
+        self.place([7, ins[0], 0, 0, 0, 0]);
         let outs = self.node(node.first as usize, ins[1..].to_vec());
         for (j, &register) in outs.iter().enumerate() {
-            self.place([6, cell + j as u32, register, 0, 0]);
+            self.place([6, cell + j as u32, register, 0, 0, 0]);
         }
         self.instructions[skip][2] = (self.instructions.len() - skip - 1) as u32;
         (0..outs.len() as u32)
-            .map(|j| self.place([5, cell + j, 0, 0, 0]))
+            .map(|j| self.place([5, cell + j, 0, 0, 0, 0]))
             .collect()
     }
 }

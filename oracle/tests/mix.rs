@@ -291,13 +291,13 @@ fn maxima() {
     for command in generate(1, 3000) {
         let fits = match command {
             Command::Table(numbers) => numbers.len() <= 2000,
-            Command::Code(numbers) => numbers.len() <= 12000,
+            Command::Code(numbers) => numbers.len() <= 13000,
             Command::Inputs(numbers) => numbers.len() <= 131200,
             Command::Controls(numbers) => numbers.len() <= 32,
             Command::File(bytes) => bytes.len() <= 21100,
             Command::Read(length) => length <= 2000,
             Command::Write(length) => length <= 21100,
-            Command::Translate(length) => length <= 12000,
+            Command::Translate(length) => length <= 13000,
             Command::Load(_, lent) | Command::Cells(lent) => lent <= 17000,
             Command::Walk(_, lent, out) | Command::Run(_, lent, out) => {
                 lent <= 17000 && out <= 131200

@@ -172,7 +172,7 @@ fn delays_fill_the_cells() {
     let commands = [
         Command::Table(words(&four.concat())),
         Command::Check,
-        Command::Translate(28),
+        Command::Translate(32),
         Command::Table(words(&[four.concat(), five.concat()].concat())),
         Command::Check,
         Command::Translate(2),
@@ -181,7 +181,7 @@ fn delays_fill_the_cells() {
     let printed = expected(&commands);
     let lines: Vec<&str> = printed.lines().collect();
     assert_eq!(lines[0], "check 8 4 4 16384");
-    assert!(lines[1].starts_with("translate 28 | 8 4*2 16384 4 0 1 0 4095 4 2 3 4096"));
+    assert!(lines[1].starts_with("translate 32 | 8 4*2 16384 4 0 1 0 4095 0 4 2 3 4096"));
     assert_eq!(lines[2], "check 10 5 5 20480");
     assert_eq!(lines[3], "translate refused 11 -1 | 9*2");
     assert_eq!(lines[4], "walk refused 11 -1 |");
@@ -213,9 +213,9 @@ fn integrator_print() {
    2          11           0           1
 ";
     let print = "           1           1           3           1
-           5           0           0           0           0
-           3           1           1           0           0
-           6           0           2           0           0
+           5           0           0           0           0           0
+           3           1           1           0           0           0
+           6           0           2           0           0           0
            2
 ";
     let commands = [Command::File(file.as_bytes().to_vec()), Command::Print];

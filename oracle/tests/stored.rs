@@ -46,6 +46,15 @@ fn format() {
     holds("format");
 }
 
+/// The document's own print, and the samples of the same circuit.
+#[test]
+fn programs() {
+    let translate = translated(&stored("translate", "stdin"));
+    assert!(translate.into_bytes() == stored("translate", "stdout"));
+    let play = played(&stored("play", "stdin"));
+    assert!(play.into_bytes() == stored("play", "stdout"));
+}
+
 /// The runs of a program on the files of a folder: of each a line with its name, then what is printed.
 fn runs(program: &str, printed: fn(&[u8]) -> String) {
     let stdout = String::from_utf8(stored(program, "stdout")).unwrap();
