@@ -5,6 +5,7 @@ use crate::circuits::{beside, cable, leaf, ondemand, pair, table, Tree};
 use crate::column::text;
 use crate::good_cases::circuit;
 use crate::random::Random;
+use crate::samples::{operands, ops, BEYOND};
 use crate::script::Command;
 
 pub fn bad_table_case(random: &mut Random) -> Vec<Command> {
@@ -17,10 +18,10 @@ pub fn bad_table_case(random: &mut Random) -> Vec<Command> {
         case.push(Command::Table(bad.clone()));
         case.push(Command::Check);
         match random.below(8) {
-            0 | 1 => case.push(Command::Translate(random.below(4))),
-            2 | 3 => case.push(Command::Walk(random.within(-1, 1) as u32, 0, 0)),
-            4 => case.push(Command::Write(random.below(41))),
-            5 if bad.len().is_multiple_of(3) => {
+            0..=2 => case.push(Command::Translate(random.below(4))),
+            3 | 4 => case.push(Command::Walk(random.within(-1, 1) as u32, 0, 0)),
+            5 => case.push(Command::Write(random.below(41))),
+            6 if bad.len().is_multiple_of(3) => {
                 case.extend([Command::File(text(&bad)), Command::Print]);
             }
             _ => {}
@@ -75,14 +76,22 @@ fn lengthen(random: &mut Random, bad: &mut Vec<u32>) {
     }
 }
 
-/// "a used field of kinds 2 to 4 out of range, or an unused field not 0", each kind alike.
+/// "a used field of kinds 2 to 4 out of range, or an unused field not 0", each kind alike; ops twice.
 fn spoil_field(random: &mut Random, bad: &mut [u32], node: usize) {
-    let kind = random.pick(&[1, 2, 3, 4, 5, 6, 12]);
+    let kind = random.pick(&[1, 2, 3, 3, 4, 5, 6, 12]);
     let mut alike = (0..bad.len() / 3).filter(|n| bad[3 * n] == kind);
     let at = 3 * alike.next_back().unwrap_or(node);
     let wrong: &[i32] = match bad[at] {
         2 => &[16, 16, -1, i32::MIN, i32::MAX],
-        3 => &[0, 10, 10, -1, i32::MIN, 265],
+        3 => &[
+            0,
+            BEYOND as i32,
+            BEYOND as i32,
+            BEYOND as i32,
+            -1,
+            i32::MIN,
+            256 + 10,
+        ],
         4 => &[4096, 4096, -1, i32::MIN, i32::MAX],
         _ => &[1, -1, i32::MIN, 256],
     };
@@ -123,21 +132,25 @@ fn misfit(random: &mut Random, bad: &mut [u32], node: usize) {
         7..=11 if random.percent(30) => bad.swap(at + 1, at + 2),
         7..=11 => bad[at] = random.pick(&[7, 8, 9, 10, 11]),
         12 => {}
-        3 => bad[at + 1] = random.pick(&[1, 2, 8, 9]),
+        3 => bad[at + 1] = random.pick(&ops()),
         _ => {
-            let other = random.pick(&[[1, 4], [3, 1], [4, 2], [5, 0], [6, 0], [3, 8]]);
+            let op = random.pick(&ops());
+            let other = random.pick(&[[1, 4], [3, op], [4, 2], [5, 0], [6, 0], [3, op]]);
             bad[at..at + 2].copy_from_slice(&other);
         }
     }
 }
 
-/// Boxes side by side with exactly so many inputs (two to a box) and half the outputs.
-pub fn wide(random: &mut Random, inputs: usize) -> Tree {
-    let mut trees: Vec<Tree> = (0..inputs / 2)
-        .map(|_| leaf(3, random.within(1, 7)))
-        .collect();
-    if !inputs.is_multiple_of(2) {
-        trees.push(cable());
+/// Boxes side by side with exactly so many inputs, one to three to a box, and an output each.
+pub fn wide(random: &mut Random, mut inputs: usize) -> Tree {
+    let mut trees = Vec::new();
+    while inputs > 0 {
+        let op = random.pick(&ops());
+        let taken = operands(op).expect("an op");
+        if taken <= inputs {
+            trees.push(leaf(3, op as i32));
+            inputs -= taken;
+        }
     }
     beside(random, trees)
 }
@@ -181,10 +194,11 @@ fn loosen(random: &mut Random, bad: &mut Vec<u32>) {
 
 /// A node without children.
 fn small(random: &mut Random) -> [u32; 3] {
+    let op = random.pick(&ops());
     random.pick(&[
         [1, 3, 0],
         [2, 4, 0],
-        [3, 1, 0],
+        [3, op, 0],
         [4, 2, 0],
         [5, 0, 0],
         [6, 0, 0],

@@ -1,7 +1,7 @@
 //! Random circuits: trees built for wanted inputs and outputs, then numbered in a random
 //! legal order.
 
-use crate::clocks::clock;
+use crate::clocks::{clock, test};
 use crate::random::Random;
 
 pub struct Tree {
@@ -72,6 +72,16 @@ fn source(random: &mut Random) -> Tree {
     }
 }
 
+/// An op of so many inputs. With the ops of clocks and selectors, every op is as often there as
+/// the others.
+fn op(random: &mut Random, inputs: usize) -> i32 {
+    match inputs {
+        1 => random.within(8, 9),
+        2 => 1 + random.weighted(&[12, 4, 19, 20, 13, 16, 18]) as i32,
+        _ => 10,
+    }
+}
+
 /// The longest delay of a circuit, D.
 pub fn length(random: &mut Random) -> i32 {
     match random.below(60) {
@@ -109,14 +119,13 @@ fn row(random: &mut Random, mut inputs: usize, mut outputs: usize) -> Tree {
     let mut trees = Vec::new();
     while inputs + outputs > 0 {
         let two = inputs >= 2 && outputs >= 1 && (inputs > outputs || random.percent(10));
-        let (taken, given, tree) = if two && random.percent(25) {
+        let three = two && inputs >= outputs + 2;
+        let (taken, given, tree) = if three && random.percent(15) {
+            (3, 1, leaf(3, op(random, 3)))
+        } else if two && random.percent(25) {
             (2, 1, leaf(4, length(random)))
         } else if two {
-            (
-                2,
-                1,
-                leaf(3, random.pick(&[1, 1, 1, 2, 2, 2, 3, 4, 5, 6, 7])),
-            )
+            (2, 1, leaf(3, op(random, 2)))
         } else if inputs > 0 && outputs > 0 {
             (1, 1, wire(random))
         } else if inputs > 0 {
@@ -133,10 +142,10 @@ fn row(random: &mut Random, mut inputs: usize, mut outputs: usize) -> Tree {
 }
 
 fn wire(random: &mut Random) -> Tree {
-    if random.percent(65) {
+    if random.percent(90) {
         cable()
     } else {
-        leaf(3, random.within(8, 9))
+        leaf(3, op(random, 1))
     }
 }
 
@@ -146,7 +155,7 @@ pub fn build(random: &mut Random, inputs: usize, outputs: usize, size: usize) ->
         return simple(random, inputs, outputs);
     }
     let (left, right) = shares(random, size - 1);
-    match random.weighted(&[18, 20, 12, 12, 17, 17, 8]) {
+    match random.weighted(&[18, 20, 12, 12, 17, 17, 8, 10]) {
         0 => {
             let beam = width(random);
             let first = build(random, inputs, beam, left);
@@ -168,6 +177,7 @@ pub fn build(random: &mut Random, inputs: usize, outputs: usize, size: usize) ->
         4 => recursion(random, inputs, outputs, left, right),
         5 => demanded(random, inputs, outputs, size),
         6 if outputs == 1 => delayed(random, inputs, size),
+        7 if outputs == 1 => selected(random, inputs, size),
         _ => build(random, inputs, outputs, size - 1),
     }
 }
@@ -223,6 +233,23 @@ fn delayed(random: &mut Random, inputs: usize, size: usize) -> Tree {
     };
     let input = build(random, inputs, 1, size.saturating_sub(3));
     pair(7, pair(8, input, amount), leaf(4, d))
+}
+
+/// A selector between two parts, by a first input that is 0 now and then: only so do both its
+/// ways show.
+fn selected(random: &mut Random, inputs: usize, size: usize) -> Tree {
+    let for_test = match random.percent(60) {
+        true => inputs.min(1),
+        false => random.below(inputs.min(2) + 1),
+    };
+    let rest = inputs - for_test;
+    let for_second = random.below(rest + 1);
+    let (left, right) = shares(random, size.saturating_sub(3).max(2));
+    let first = test(random, for_test);
+    let second = build(random, for_second, 1, left);
+    let third = build(random, rest - for_second, 1, right);
+    let beam = beside(random, vec![first, second, third]);
+    pair(7, beam, leaf(3, op(random, 3)))
 }
 
 /// An ondemand: with its clock straight from its first input, or from a clock built for it.

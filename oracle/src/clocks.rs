@@ -16,7 +16,7 @@ pub fn demand(random: &mut Random) -> i32 {
     }
 }
 
-/// A tick's value of an input or a control that is a clock.
+/// A tick's value of an input or a control that is a clock, or a selector's first input.
 pub fn value(random: &mut Random) -> i32 {
     match random.below(10) {
         0..=3 => 0,
@@ -47,11 +47,21 @@ pub fn clock(random: &mut Random, inputs: usize) -> Tree {
     }
 }
 
+/// The first input of a selector, from none, one or two inputs: mostly an input or a control, else
+/// what might be a clock.
+pub fn test(random: &mut Random, inputs: usize) -> Tree {
+    match inputs {
+        0 if random.percent(50) => control(random),
+        1 if random.percent(85) => cable(),
+        _ => clock(random, inputs),
+    }
+}
+
 fn control(random: &mut Random) -> Tree {
     leaf(2, random.within(0, 15))
 }
 
-/// An operation on two trees.
+/// An operation on the outputs of two trees.
 fn operation(op: i32, left: Tree, right: Tree) -> Tree {
     pair(7, pair(8, left, right), leaf(3, op))
 }
@@ -113,7 +123,7 @@ fn counting(random: &mut Random) -> Tree {
 /// A clock from one input.
 fn fed(random: &mut Random) -> Tree {
     let small = random.within(0, 2);
-    match random.below(12) {
+    match random.below(14) {
         0 | 1 => cable(),
         2 | 3 => difference(cable(), leaf(1, small)),
         4 => difference(leaf(1, small), cable()),
@@ -121,11 +131,20 @@ fn fed(random: &mut Random) -> Tree {
         6 | 7 => change(random),
         8 => operation(5, cable(), leaf(1, random.within(2, 4))),
         9 => operation(3, cable(), leaf(1, demand(random))),
+        10 | 11 => either(random),
         _ => {
             let number = leaf(1, random.within(1, 6));
             compare(random, cable(), number)
         }
     }
+}
+
+/// A demand where an input is 0, or where it is not.
+fn either(random: &mut Random) -> Tree {
+    let number = demand(random);
+    let (second, third) = random.pick(&[(number, 0), (0, number)]);
+    let numbers = pair(8, leaf(1, second), leaf(1, third));
+    operation(10, cable(), numbers)
 }
 
 /// An input minus itself one tick late: a demand when it has changed.

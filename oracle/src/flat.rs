@@ -92,8 +92,24 @@ fn instruction_fits(six: &Instruction, i: usize, counts: &Counts) -> bool {
     }
 }
 
+/// What an op gives for its inputs.
+pub type Operate = fn(u32, &[i32]) -> i32;
+
 /// Runs checked code on a block: `inputs` and `outputs` tick after tick.
 pub fn interpret(
+    code: &[u32],
+    inputs: &[u32],
+    controls: &[u32],
+    cells: &mut [u32],
+    outputs: &mut [u32],
+    ticks: usize,
+) {
+    interpret_by(operate, code, inputs, controls, cells, outputs, ticks);
+}
+
+/// The same with ops that may be wrong ones.
+pub fn interpret_by(
+    operate: Operate,
     code: &[u32],
     inputs: &[u32],
     controls: &[u32],
@@ -108,13 +124,8 @@ pub fn interpret(
         registers.resize(n + c, 0);
         let mut i = 0;
         while i < c {
-            i += 1 + step(
-                &instruction(code, i),
-                n + i,
-                &mut registers,
-                controls,
-                cells,
-            );
+            let six = instruction(code, i);
+            i += 1 + step(operate, &six, n + i, &mut registers, controls, cells);
         }
         for (j, &register) in self::outputs(code).iter().enumerate() {
             outputs[tick * m + j] = registers[register as usize];
@@ -124,6 +135,7 @@ pub fn interpret(
 
 /// One instruction; gives how many it skips.
 fn step(
+    operate: Operate,
     six: &Instruction,
     own: usize,
     registers: &mut [u32],

@@ -1,11 +1,12 @@
 //! The random script: a mix of cases, each on its own.
 
-use crate::bad_codes::{bad_code_case, garbage_case, random_code_case};
+use crate::bad_codes::{bad_code_case, garbage_case};
 use crate::bad_files::{bad_file_case, round_case};
 use crate::bad_tables::bad_table_case;
 use crate::good_cases::{good_case, long_case, usual_size};
 use crate::limit_cases::{limit_case, nodes_case, operations_case};
 use crate::random::Random;
+use crate::random_codes::{operands_case, random_code_case};
 use crate::script::Command;
 
 /// The commands of so many cases.
@@ -27,6 +28,9 @@ fn one(random: &mut Random, number: usize) -> (&'static str, Vec<Command>) {
     }
     if number % 200 == 100 {
         return ("operations", operations_case(random));
+    }
+    if number % 200 == 150 {
+        return ("operands", operands_case(random));
     }
     match random.below(1000) {
         0..=3 => ("long block", long_case(random)),

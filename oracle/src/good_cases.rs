@@ -12,12 +12,13 @@ use crate::random::Random;
 use crate::script::Command;
 use crate::translate::code;
 
-/// What an input or a control is to the clocks of a circuit.
+/// What an input or a control is to the clocks and selectors of a circuit.
 #[derive(Clone, Copy)]
 enum Role {
     None,
-    Clock,
-    /// A side of a difference or a product that is a clock.
+    /// A clock, or the first input of a selector: 0 or any other number.
+    Truth,
+    /// A side of a difference or a product that is one.
     Side,
 }
 
@@ -44,7 +45,8 @@ impl Circuit {
             }
         };
         note(graph.sides(), Role::Side);
-        note(graph.clocks(), Role::Clock);
+        note(graph.tests(), Role::Truth);
+        note(graph.clocks(), Role::Truth);
         Some(Circuit {
             table,
             counts: checked.counts,
@@ -91,7 +93,7 @@ pub fn controls(random: &mut Random, circuit: &Circuit) -> Vec<u32> {
     let quiet = random.percent(50);
     let near = clocks::near(random);
     let value = |role: &Role| match role {
-        Role::Clock => clocks::value(random),
+        Role::Truth => clocks::value(random),
         Role::Side => random.pick(&near),
         Role::None if quiet => 3,
         Role::None => sample(random),
@@ -109,7 +111,7 @@ pub fn inputs(random: &mut Random, circuit: &Circuit, ticks: usize) -> Vec<u32> 
     let plain = random.percent(60);
     let near = clocks::near(random);
     let value = |role: &Role| match role {
-        Role::Clock => clocks::value(random),
+        Role::Truth => clocks::value(random),
         Role::Side => random.pick(&near),
         Role::None if plain => random.within(0, 9),
         Role::None => sample(random),

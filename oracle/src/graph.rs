@@ -206,13 +206,24 @@ impl Graph {
         demands.map(|demand| self.outside(demand.clock)).collect()
     }
 
-    /// The two sides of the differences and products among the clocks.
+    /// The first inputs of selectors.
+    pub fn tests(&self) -> Vec<&Signal> {
+        let test = |signal: &Signal| match signal {
+            Signal::Operation(10, ins) => Some(ins[0]),
+            _ => None,
+        };
+        let tests = self.signals.iter().filter_map(|(signal, _)| test(signal));
+        tests.map(|test| self.outside(test)).collect()
+    }
+
+    /// The two sides of the differences and products among the clocks and tests.
     pub fn sides(&self) -> Vec<&Signal> {
         let sides = |clock: &Signal| match clock {
             Signal::Operation(2 | 3, sides) => sides.iter().map(|&x| self.outside(x)).collect(),
             _ => vec![],
         };
-        self.clocks().into_iter().flat_map(sides).collect()
+        let all = self.clocks().into_iter().chain(self.tests());
+        all.flat_map(sides).collect()
     }
 }
 

@@ -20,6 +20,7 @@ pub mod parse;
 pub mod play_cases;
 pub mod programs;
 pub mod random;
+pub mod random_codes;
 pub mod samples;
 pub mod scene;
 pub mod script;

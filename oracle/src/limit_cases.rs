@@ -8,6 +8,7 @@ use crate::column::text;
 use crate::flat::WIDTH;
 use crate::good_cases::Circuit;
 use crate::random::Random;
+use crate::samples::ops;
 use crate::script::Command;
 
 pub fn limit_case(random: &mut Random) -> Vec<Command> {
@@ -69,7 +70,7 @@ fn instructions(random: &mut Random) -> Vec<Command> {
         tree = ondemand(tree);
     }
     let beyond = random.pick(&[0, 1, 2, 2, 2, 3, 4]);
-    let mut boxes: Vec<Tree> = (0..beyond).map(|_| leaf(3, 8)).collect();
+    let mut boxes: Vec<Tree> = (0..beyond).map(|_| leaf(3, random.within(8, 9))).collect();
     let mut free = 32 - beyond;
     if random.percent(25) {
         // Too many instructions and too many cells: 10 comes before 11.
@@ -158,15 +159,15 @@ fn ticks(random: &mut Random) -> Vec<Command> {
     case
 }
 
-/// Every op on the same two inputs, at their extremes.
+/// Every op on the same two inputs, at their extremes; the selector on x y x and on y x y.
 pub fn operations_case(random: &mut Random) -> Vec<Command> {
-    let mut boxes: Vec<Tree> = (1..=7).map(|op| leaf(3, op)).collect();
-    boxes.push(leaf(3, 8));
-    boxes.push(leaf(3, 9));
+    let mut boxes: Vec<Tree> = ops().into_iter().map(|op| leaf(3, op as i32)).collect();
+    boxes.push(leaf(3, 10));
     let tree = pair(9, pair(8, cable(), cable()), beside(random, boxes));
     let circuit = Circuit::of(table(random, &tree)).expect("an accepted table");
     let extremes = [0, 1, -1, 2, -3, i32::MIN, i32::MAX, i32::MIN + 1, 46341];
     let ticks = 24;
+    let samples = ticks * circuit.counts.outputs as usize;
     let given = (0..2 * ticks)
         .map(|_| random.pick(&extremes) as u32)
         .collect();
@@ -177,8 +178,8 @@ pub fn operations_case(random: &mut Random) -> Vec<Command> {
         Command::Controls(vec![0; 16]),
         Command::Load(0, 0),
         Command::Inputs(given),
-        Command::Walk(ticks as u32, 0, 9 * ticks),
-        Command::Run(ticks as u32, 0, 9 * ticks),
+        Command::Walk(ticks as u32, 0, samples),
+        Command::Run(ticks as u32, 0, samples),
     ]
 }
 
@@ -188,7 +189,7 @@ pub fn nodes_case(random: &mut Random, beyond: bool) -> Vec<Command> {
     let mut table = vec![5, 0, 0, 12, 0, 0];
     for last in (1..511).step_by(2) {
         let kind = if random.percent(10) {
-            [3, 9, 0]
+            [3, random.pick(&[8, 9]), 0]
         } else {
             [5, 0, 0]
         };

@@ -2,7 +2,7 @@
 //! history, and the cells by the document's closed formulas. No cell is read to get a sample.
 
 use crate::arity::{check, Checked};
-use crate::graph::{Demand, Graph, Id, Memory, Signal, Time};
+use crate::graph::{Graph, Id, Memory, Signal, Time};
 use crate::samples::{amount, operate};
 
 pub struct Meaning {
@@ -70,12 +70,16 @@ impl Meaning {
         (self.plus(time, outer - 1) + 1) as usize
     }
 
+    /// A signal at its own ticks.
+    pub fn values(&mut self, id: Id) -> &[i32] {
+        let ticks = self.own_ticks(self.graph.signals[id].1);
+        self.value(id, ticks as i64 - 1);
+        &self.values[id][..ticks]
+    }
+
     /// A body's clock at the own ticks of its ondemand.
     pub fn clock(&mut self, body: Time) -> &[i32] {
-        let Demand { parent, clock } = self.graph.demands[body];
-        let ticks = self.own_ticks(parent);
-        self.value(clock, ticks as i64 - 1);
-        &self.values[clock][..ticks]
+        self.values(self.graph.demands[body].clock)
     }
 
     /// "Every signal is 0 before tick 0, constants and controls too."

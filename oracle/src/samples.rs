@@ -4,9 +4,12 @@
 /// E4: "op 10 with three inputs".
 const OPERANDS: [usize; 11] = [0, 2, 2, 2, 2, 2, 2, 2, 1, 1, 3];
 
+/// The lowest number above the ops.
+pub const BEYOND: u32 = OPERANDS.len() as u32;
+
 /// The ops, in order.
-pub fn ops() -> impl Iterator<Item = u32> {
-    1..OPERANDS.len() as u32
+pub fn ops() -> Vec<u32> {
+    (1..BEYOND).collect()
 }
 
 /// How many inputs an op takes; `None` for a number that is no op.
