@@ -1,4 +1,4 @@
-//! The document's bench samples, and those of E1, by the meaning.
+//! The document's bench samples, and those of E1 and E4, by the meaning.
 
 use oracle::arity::check;
 use oracle::column::{parse, text};
@@ -145,6 +145,60 @@ fn ondemand_in_ondemand() {
     assert_eq!(given, [1, 1, 1, 4]);
 }
 
+/// E4: "it gives the second when the first is 0, otherwise the third".
+#[test]
+fn selector() {
+    let first = [0, 1, -1, 2, i32::MIN, 0];
+    let (second, third) = ([10, 11, 12, 13, 14, 15], [20, 21, 22, 23, 24, 25]);
+    let given = samples(&[3, 10, 0], &[&first, &second, &third], 6);
+    assert_eq!(given, [10, 21, 22, 23, 24, 15]);
+}
+
+/// E4: "two multiplications and an addition, and those wrap".
+#[test]
+fn selector_of_extremes() {
+    let first = [0, 1, 2, -1, i32::MIN];
+    let (second, third) = ([i32::MAX; 5], [i32::MIN; 5]);
+    let given = samples(&[3, 10, 0], &[&first, &second, &third], 5);
+    assert_eq!(given, [i32::MAX, i32::MIN, i32::MIN, i32::MIN, i32::MIN]);
+    let given = samples(&[3, 10, 0], &[&first, &third, &second], 5);
+    assert_eq!(given, [i32::MIN, i32::MAX, i32::MAX, i32::MAX, i32::MAX]);
+}
+
+/// Both sides of a selector go on at every tick.
+#[test]
+fn selector_of_integrators() {
+    // (_, (+ ~ _), (+ ~ _)) : select2
+    let integrators = [[3, 1, 0], [5, 0, 0], [11, 1, 2], [3, 1, 0], [5, 0, 0]];
+    let ends = [[11, 4, 5], [8, 3, 6], [8, 0, 7], [3, 10, 0], [7, 8, 9]];
+    let table = [&[[5, 0, 0]][..], &integrators, &ends].concat().concat();
+    let given = samples(&table, &[&[0, 1, 0, -5], &[1; 4], &[10; 4]], 4);
+    assert_eq!(given, [1, 20, 3, 40]);
+}
+
+/// A selector whose first input is its own output one tick late.
+#[test]
+fn selector_by_itself() {
+    let (second, third) = ([0, 4, 5, 7, 8], [9, 9, 6, 0, 9]);
+    let table = [3, 10, 0, 5, 0, 0, 11, 0, 1];
+    assert_eq!(samples(&table, &[&second, &third], 5), [0, 4, 6, 0, 8]);
+}
+
+/// A selector on demand, its clock made of its own output one tick late.
+#[test]
+fn selector_on_its_own_demand() {
+    // ondemand(select2) ~ _: the clock is 0 and stays so
+    let silent = [3, 10, 0, 12, 0, 0, 5, 0, 0, 11, 1, 2];
+    let (first, second, third) = ([0, 7, 0, 5], [5, 5, 8, 8], [9, 1, 9, 9]);
+    let given = samples(&silent, &[&first, &second, &third], 4);
+    assert_eq!(given, [0; 4]);
+    // ondemand(select2) ~ (1, _ : -): the clock is 1, -4, then 0
+    let clock = [[1, 1, 0], [5, 0, 0], [8, 2, 3], [3, 2, 0], [7, 4, 5]];
+    let table = [&silent[..6], &clock.concat(), &[11, 1, 6]].concat();
+    let given = samples(&table, &[&first, &second, &third], 4);
+    assert_eq!(given, [5, 1, 1, 1]);
+}
+
 #[test]
 fn cells_by_the_formulas() {
     // A delay of 3 in an ondemand, five demands in seven ticks.
@@ -204,6 +258,32 @@ fn wires_and_lines() {
     let lines = [5, 0, 0].repeat(513);
     assert_eq!(parse(&text(&lines[3..])).expect("512 lines").len(), 1536);
     assert_eq!(parse(&text(&lines)), Err(Refusal::at(3, 512)));
+}
+
+/// E4: "Kind 3 and code 3 accept ops 1 to 10".
+#[test]
+fn ops() {
+    for op in 1..=10 {
+        let counts = check(&[3, op, 0]).expect("an op").counts;
+        let inputs = [2, 2, 2, 2, 2, 2, 2, 1, 1, 3][op as usize - 1];
+        assert_eq!([counts.inputs, counts.outputs], [inputs, 1]);
+        assert_eq!([counts.instructions, counts.cells], [1, 0]);
+    }
+    for op in [0, -1, 11, 12, 256 + 10, i32::MIN, i32::MAX] {
+        let refused = check(&words(&[3, op, 0])).expect_err("no op");
+        assert_eq!(refused, Refusal::at(5, 0));
+    }
+}
+
+/// E4: "The translator's print gains that column in each instruction line".
+#[test]
+fn selector_print() {
+    let file = text(&[3, 10, 0]);
+    let print = "           3           1           1           0
+           3          10           0           1           0           2
+           3
+";
+    assert_eq!(expected(&[Command::File(file), Command::Print]), print);
 }
 
 #[test]
