@@ -1,5 +1,7 @@
 //! The stored scripts of the repository's programs, against the oracle.
 
+use oracle::arity::check;
+use oracle::column;
 use oracle::generate::generate;
 use oracle::parse::parse;
 use oracle::programs::{played, translated};
@@ -53,6 +55,18 @@ fn programs() {
     assert!(translate.into_bytes() == stored("translate", "stdout"));
     let play = played(&stored("play", "stdin"));
     assert!(play.into_bytes() == stored("play", "stdout"));
+}
+
+/// The circuits for users are accepted ones.
+#[test]
+fn circuits() {
+    let folder = format!("{}/../samples", env!("CARGO_MANIFEST_DIR"));
+    for file in read_dir(folder).unwrap() {
+        let path = file.unwrap().path();
+        let table = column::parse(&read(&path).unwrap());
+        let counts = table.and_then(|table| check(&table));
+        assert!(counts.is_ok(), "{path:?}: {counts:?}");
+    }
 }
 
 /// The runs of a program on the files of a folder: of each a line with its name, then what is printed.
