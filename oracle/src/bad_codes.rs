@@ -5,7 +5,7 @@ use crate::circuits::sample;
 use crate::flat::{self, length, Instruction, HEADER, INPUTS, WIDTH};
 use crate::good_cases::{block, circuit, controls, inputs, more, Circuit};
 use crate::random::Random;
-use crate::samples::{operands, BEYOND};
+use crate::samples::{operands, BEYOND, SELECTOR};
 use crate::script::Command;
 use crate::translate;
 
@@ -38,7 +38,7 @@ fn damageable(random: &mut Random) -> Circuit {
         let size = 3 + random.below(9);
         let circuit = circuit(random, size);
         let mut nodes = circuit.table.chunks(3);
-        if !selects || nodes.any(|node| node[..2] == [3, 10]) {
+        if !selects || nodes.any(|node| node[..2] == [3, SELECTOR]) {
             return circuit;
         }
     }
@@ -120,7 +120,7 @@ fn unused(six: &Instruction) -> &'static [usize] {
 }
 
 pub fn selects(six: &Instruction) -> bool {
-    six[..2] == [3, 10]
+    six[..2] == [3, SELECTOR]
 }
 
 /// One clause of row 13, or something near it that passes.

@@ -3,6 +3,7 @@
 
 use crate::clocks::{clock, test};
 use crate::random::Random;
+use crate::samples::SELECTOR;
 
 pub struct Tree {
     pub kind: u32,
@@ -78,7 +79,7 @@ fn op(random: &mut Random, inputs: usize) -> i32 {
     match inputs {
         1 => random.within(8, 9),
         2 => 1 + random.weighted(&[12, 4, 19, 20, 13, 16, 18]) as i32,
-        _ => 10,
+        _ => SELECTOR as i32,
     }
 }
 

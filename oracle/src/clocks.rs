@@ -4,6 +4,7 @@
 
 use crate::circuits::{cable, leaf, pair, Tree};
 use crate::random::Random;
+use crate::samples::SELECTOR;
 
 /// A demand other than 1: E1's 2 and -1, more even and negative ones, the extremes, and
 /// numbers whose low half is 0.
@@ -144,7 +145,7 @@ fn either(random: &mut Random) -> Tree {
     let number = demand(random);
     let (second, third) = random.pick(&[(number, 0), (0, number)]);
     let numbers = pair(8, leaf(1, second), leaf(1, third));
-    operation(10, cable(), numbers)
+    operation(SELECTOR as i32, cable(), numbers)
 }
 
 /// An input minus itself one tick late: a demand when it has changed.

@@ -2,6 +2,7 @@
 //! the sources: a circuit maps signals to signals; an ondemand's body gets x↓h and gives y↑h.
 
 use crate::arity::{Checked, Node};
+use crate::samples::SELECTOR;
 
 pub type Id = usize;
 /// A time domain; 0 is the circuit's own, every other that of one ondemand's body.
@@ -209,7 +210,7 @@ impl Graph {
     /// The first inputs of selectors.
     pub fn tests(&self) -> Vec<&Signal> {
         let test = |signal: &Signal| match signal {
-            Signal::Operation(10, ins) => Some(ins[0]),
+            Signal::Operation(SELECTOR, ins) => Some(ins[0]),
             _ => None,
         };
         let tests = self.signals.iter().filter_map(|(signal, _)| test(signal));

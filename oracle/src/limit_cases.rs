@@ -8,7 +8,7 @@ use crate::column::text;
 use crate::flat::WIDTH;
 use crate::good_cases::Circuit;
 use crate::random::Random;
-use crate::samples::ops;
+use crate::samples::{ops, SELECTOR};
 use crate::script::Command;
 
 pub fn limit_case(random: &mut Random) -> Vec<Command> {
@@ -162,7 +162,7 @@ fn ticks(random: &mut Random) -> Vec<Command> {
 /// Every op on the same two inputs, at their extremes; the selector on x y x and on y x y.
 pub fn operations_case(random: &mut Random) -> Vec<Command> {
     let mut boxes: Vec<Tree> = ops().into_iter().map(|op| leaf(3, op as i32)).collect();
-    boxes.push(leaf(3, 10));
+    boxes.push(leaf(3, SELECTOR as i32));
     let tree = pair(9, pair(8, cable(), cable()), beside(random, boxes));
     let circuit = Circuit::of(table(random, &tree)).expect("an accepted table");
     let extremes = [0, 1, -1, 2, -3, i32::MIN, i32::MAX, i32::MIN + 1, 46341];

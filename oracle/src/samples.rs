@@ -4,6 +4,9 @@
 /// E4: "op 10 with three inputs".
 const OPERANDS: [usize; 11] = [0, 2, 2, 2, 2, 2, 2, 2, 1, 1, 3];
 
+/// E4's selector.
+pub const SELECTOR: u32 = 10;
+
 /// The lowest number above the ops.
 pub const BEYOND: u32 = OPERANDS.len() as u32;
 
@@ -33,8 +36,8 @@ pub fn operate(op: u32, inputs: &[i32]) -> i32 {
         (7, [x, y]) => i32::from(x == y),
         (8, [x]) => x.wrapping_abs(),
         (9, [x]) => x.wrapping_neg(),
-        (10, [0, y, _]) => *y,
-        (10, [_, _, z]) => *z,
+        (SELECTOR, [0, y, _]) => *y,
+        (SELECTOR, [_, _, z]) => *z,
         _ => panic!("no op {op} of {} inputs", inputs.len()),
     }
 }

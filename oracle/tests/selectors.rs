@@ -5,11 +5,11 @@ mod wrong;
 
 use oracle::arity::check;
 use oracle::column::parse;
-use oracle::flat::{self, length};
+use oracle::flat::{self, length, HEADER, WIDTH};
 use oracle::generate::generate;
 use oracle::graph::Signal;
 use oracle::meaning::Meaning;
-use oracle::samples::ops;
+use oracle::samples::{ops, SELECTOR};
 use oracle::script::{expected, play, Command};
 use wrong::{Wrong, RIGHT, WRONG};
 
@@ -42,10 +42,10 @@ fn ops_alike() {
     let nodes = tables.iter().flat_map(|table| table.chunks_exact(3));
     let in_tables = counts(nodes.filter(|node| node[0] == 3).map(|node| node[1]));
     let codes = commands.iter().filter_map(|command| match command {
-        Command::Code(numbers) if numbers.len() > 4 => Some(&numbers[4..]),
+        Command::Code(numbers) if numbers.len() > HEADER => Some(&numbers[HEADER..]),
         _ => None,
     });
-    let instructions = codes.flat_map(|numbers| numbers.chunks_exact(6));
+    let instructions = codes.flat_map(|numbers| numbers.chunks_exact(WIDTH));
     let in_codes = counts(instructions.filter(|six| six[0] == 3).map(|six| six[1]));
     println!("tables {in_tables:?}\ncodes {in_codes:?}");
     assert!(between(&in_tables, 8, 12));
@@ -83,7 +83,7 @@ impl Seen {
         let before = self.selectors;
         let graph = meaning.graph().clone();
         for (id, (signal, time)) in graph.signals.iter().enumerate() {
-            if let Signal::Operation(10, ins) = signal {
+            if let Signal::Operation(SELECTOR, ins) = signal {
                 let values = [0, 1, 2].map(|i| meaning.values(ins[i]).to_vec());
                 self.selector(&values);
                 self.in_bodies += usize::from(*time > 0 && !values[0].is_empty());
@@ -159,7 +159,7 @@ fn sixth_numbers() {
         let count = code.get(2).map_or(0, |&c| c.min(2048) as usize);
         let wrong = |&i: &usize| {
             let six = code.get(length(i, 0)..length(i + 1, 0));
-            six.is_some_and(|six| six[..2] != [3, 10] && six[5] != 0)
+            six.is_some_and(|six| six[..2] != [3, SELECTOR] && six[5] != 0)
         };
         let wrong: Vec<usize> = (0..count).filter(wrong).collect();
         if let [i] = wrong[..] {

@@ -5,7 +5,7 @@ use oracle::column;
 use oracle::engine::{Counts, Engine, Refusal};
 use oracle::entries::{Block, Past};
 use oracle::flat::{instruction, interpret_by, length, Instruction, Operate, HEADER, WIDTH};
-use oracle::samples::{operate, BEYOND};
+use oracle::samples::{operate, BEYOND, SELECTOR};
 use oracle::translate::{code, translate};
 
 type Answer = Result<u32, Refusal>;
@@ -38,7 +38,7 @@ pub const RIGHT: Wrong = Wrong {
 };
 
 fn selects(six: &Instruction) -> bool {
-    six[..2] == [3, 10]
+    six[..2] == [3, SELECTOR]
 }
 
 /// Changes each whole instruction of a code; `change` is told the instruction's own register too.
