@@ -4,11 +4,12 @@
 mod wrong;
 
 use oracle::arity::check;
-use oracle::column::parse;
+use oracle::column;
 use oracle::flat::{self, length, HEADER, WIDTH};
 use oracle::generate::generate;
 use oracle::graph::Signal;
 use oracle::meaning::Meaning;
+use oracle::parse;
 use oracle::samples::{ops, SELECTOR};
 use oracle::script::{expected, play, Command};
 use wrong::{Wrong, RIGHT, WRONG};
@@ -35,7 +36,7 @@ fn ops_alike() {
     let commands = generate(1, 3000);
     let table = |command: &Command| match command {
         Command::Table(numbers) => numbers.clone(),
-        Command::File(bytes) => parse(bytes).unwrap_or_default(),
+        Command::File(bytes) => column::parse(bytes).unwrap_or_default(),
         _ => vec![],
     };
     let tables: Vec<Vec<u32>> = commands.iter().map(table).collect();
@@ -202,5 +203,17 @@ fn wrong_rules() {
         let (lines, cases) = differences(&cases, &wanted, rule);
         println!("{}: {lines} lines in {cases} cases", rule.name);
         assert!(cases >= rule.least, "{}", rule.name);
+    }
+}
+
+/// Each of them shows in the cases written by hand too.
+#[test]
+fn wrong_rules_by_hand() {
+    let script = concat!(env!("CARGO_MANIFEST_DIR"), "/../crates/cases/stdin");
+    let commands = parse::parse(&std::fs::read(script).expect("a script"));
+    let wanted = expected(&commands);
+    assert!(play(&commands, &RIGHT) == wanted);
+    for rule in &WRONG {
+        assert!(play(&commands, rule) != wanted, "{}", rule.name);
     }
 }
