@@ -67,7 +67,7 @@ struct Seen {
     other: usize,
     negative: usize,
     least: usize,
-    /// A product of the first input and what is chosen, or not, does not fit 32 bits.
+    /// A product of the first input and one of the others does not fit 32 bits.
     would_wrap: usize,
     in_bodies: usize,
     in_feedback: usize,
