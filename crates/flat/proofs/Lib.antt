@@ -8,3 +8,4 @@ pub mod Executing
 pub mod Ports
 pub mod Runs
 pub mod Refused
+mod Borders

@@ -2,18 +2,19 @@
 use Prim.Native.Nat.{ℕ, suc, _+_, _≤_, _<_}
 use mathlib.Core.Path.{_≡_, refl, sym, ap, _∙_, subst}
 use mathlib.Core.Bool.{Bool, true, false, false≢true}
-use mathlib.Core.List.{List}
+use mathlib.Core.List.{List, [], _∷_}
 use native.Mathlib.Omega.{arith}
-use borrow.Author.Tests.{leb-true, eqb-true, ltb-true, ltb-false, lt-ltb}
+use borrow.Author.Tests.{leb-true, eqb-true, ltb-true, ltb-false, lt-ltb, le-ltb}
 use lib.Dec.{eqb, leb, ltb}
 use lib.ListN.{length, getD, take}
 use lib.Seq.{getD-take}
 use Rattle.word.specs.Choice.{_and_, pick}
 use Rattle.word.specs.Operation.{operate, operandTable, operands, demand}
-use Rattle.word.proofs.Lists.{first-true}
+use Rattle.word.specs.Tick.{Each}
+use Rattle.word.proofs.Lists.{first-true, second-true}
 use Rattle.word.proofs.OperandCounts.{in-table, reads-its-own}
 use Rattle.flat.specs.Flat.{Instruction, effect, worked}
-use Rattle.flat.specs.Check.{inputOk, instructionOk}
+use Rattle.flat.specs.Check.{unused, inputOk, instructionOk}
 use Rattle.flat.specs.Steps.{Workable}
 use Rattle.flat.proofs.Decoded.{two, four}
 
@@ -52,7 +53,7 @@ module _ (cells end r : ℕ) (x : Instruction) (h : instructionOk cells end r x 
   unfolding instructionOk
   says-op e = ltb-true _ _ (first-true (ltb 0 (operands (x .a))) _ (rw e at h))
 
-  says3 : x .code ≡ 3 → (x .b < r) × ((x .c < r) × (x .e < r))
+  pub says3 : x .code ≡ 3 → (x .b < r) × ((x .c < r) × (x .e < r))
   unfolding instructionOk
   says3 e =
       let q = four (ltb 0 (operands (x .a))) (ltb (x .b) r) (inputOk (x .a) 1 r (x .c)) (inputOk (x .a) 2 r (x .e) and eqb (x .d) 0) (rw e at h) in
@@ -63,6 +64,12 @@ module _ (cells end r : ℕ) (x : Instruction) (h : instructionOk cells end r x 
       go : (has : Bool) (y : ℕ) → x .b < r → pick has (ltb y r) (eqb y 0) ≡ true → y < r
       go true y l e = ltb-true y r e
       go false y l e = omega (arith, eqb-true y 0 e)
+
+  pub fifth-unused : x .code ≡ 3 → x .d ≡ 0
+  unfolding instructionOk
+  fifth-unused e =
+      let q = four (ltb 0 (operands (x .a))) (ltb (x .b) r) (inputOk (x .a) 1 r (x .c)) (inputOk (x .a) 2 r (x .e) and eqb (x .d) 0) (rw e at h) in
+      eqb-true (x .d) 0 (second-true (inputOk (x .a) 2 r (x .e)) _ (q .1 .1 .1))
 
   says4 : x .code ≡ 4 → (x .a < r) × ((x .b < r) × ((x .d ≤ 4095) × (x .c + suc (x .d) ≤ cells)))
   unfolding instructionOk
@@ -85,6 +92,29 @@ module _ (cells end r : ℕ) (x : Instruction) (h : instructionOk cells end r x 
   says7 e =
       let q = two (ltb (x .a) r) (leb (suc (r + x .b)) end) _ (rw e at h) in
       (ltb-true _ _ (q .0), leb-true _ _ (q .1))
+
+-- "unused" numbers are 0
+zero-of : (xs : List ℕ) → unused xs ≡ true → Each (λ y. y ≡ 0) xs
+zero-of [] h = tt
+zero-of (y ∷ xs) h = (eqb-true y 0 (first-true (eqb y 0) (unused xs) h), zero-of xs (second-true (eqb y 0) (unused xs) h))
+
+-- the sixth is one of them, but of an operation with a third input
+pub sixth-unused : (cells end r : ℕ) (x : Instruction) → instructionOk cells end r x ≡ true → (x .code ≡ 3 → operands (x .a) ≤ 2) → x .e ≡ 0
+unfolding instructionOk
+sixth-unused cells end r x h f = go refl (row cells end r x h)
+  where
+    go : {k : ℕ} → x .code ≡ k → Row k → x .e ≡ 0
+    go e number = zero-of (x .b ∷ x .c ∷ x .d ∷ x .e ∷ []) (rw e at h) .1 .1 .1 .0
+    go e control = zero-of (x .b ∷ x .c ∷ x .d ∷ x .e ∷ []) (second-true (ltb (x .a) 16) _ (rw e at h)) .1 .1 .1 .0
+    go e operation =
+        let q = four (ltb 0 (operands (x .a))) (ltb (x .b) r) (inputOk (x .a) 1 r (x .c)) (inputOk (x .a) 2 r (x .e) and eqb (x .d) 0) (rw e at h) in
+        eqb-true (x .e) 0 (rw (le-ltb 2 (operands (x .a)) (f e)) at (first-true (inputOk (x .a) 2 r (x .e)) _ (q .1 .1 .1)))
+    go e delay =
+        let q = four (ltb (x .a) r) (ltb (x .b) r) (leb (x .d) 4095) (leb (x .c + suc (x .d)) cells and eqb (x .e) 0) (rw e at h) in
+        eqb-true (x .e) 0 (second-true (leb (x .c + suc (x .d)) cells) _ (q .1 .1 .1))
+    go e read = zero-of (x .b ∷ x .c ∷ x .d ∷ x .e ∷ []) (second-true (ltb (x .a) cells) _ (rw e at h)) .1 .1 .1 .0
+    go e write = zero-of (x .c ∷ x .d ∷ x .e ∷ []) (second-true (ltb (x .b) r) _ (second-true (ltb (x .a) cells) _ (rw e at h))) .1 .1 .0
+    go e skip = zero-of (x .c ∷ x .d ∷ x .e ∷ []) (second-true (leb (suc (r + x .b)) end) _ (second-true (ltb (x .a) r) _ (rw e at h))) .1 .1 .0
 
 -- "a register .. not below the instruction's own": what lies from there on makes no difference
 pub works-below : (cells end r : ℕ) (controls : List ℕ) (x : Instruction) (ρ cs : List ℕ) → instructionOk cells end r x ≡ true → worked controls x (take r ρ) cs ≡ worked controls x ρ cs

@@ -65,3 +65,8 @@ integrator-delivered code t = delivered integrator code t integrator-words ∙ i
 integrator-passes : codeOk printed ≡ true
 unfolding codeOk decode instructionsOk instructionOk operands
 integrator-passes = refl
+
+-- the code of a selector: its fifth number 0, its sixth the third input
+selector-code : translated (3 ∷ 10 ∷ 0 ∷ []) ≡ 3 ∷ 1 ∷ 1 ∷ 0 ∷ 3 ∷ 10 ∷ 0 ∷ 1 ∷ 0 ∷ 2 ∷ 3 ∷ []
+unfolding translated tree operands
+selector-code = refl

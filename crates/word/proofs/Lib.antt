@@ -5,5 +5,5 @@ pub mod Forms
 pub mod Exceptions
 pub mod Clocks
 pub mod OperandCounts
-mod Selector
+pub mod Selector
 mod Borders

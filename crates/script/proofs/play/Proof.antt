@@ -16,7 +16,7 @@ slice-aggregate-play-pieces-2 : tie.Need-slice-aggregate-play-pieces-2
 slice-aggregate-play-pieces-2 c = zeros-length 2000
 
 slice-aggregate-play-pieces-3 : tie.Need-slice-aggregate-play-pieces-3
-slice-aggregate-play-pieces-3 c = zeros-length 12000
+slice-aggregate-play-pieces-3 c = zeros-length 13000
 
 slice-aggregate-play-pieces-4 : tie.Need-slice-aggregate-play-pieces-4
 slice-aggregate-play-pieces-4 c = zeros-length 131200
