@@ -49,16 +49,19 @@ module _ (cells end r : ℕ) (x : Instruction) (h : instructionOk cells end r x 
   unfolding instructionOk
   says2 e = ltb-true _ _ (first-true (ltb (x .a) 16) _ (rw e at h))
 
-  says-op : x .code ≡ 3 → 0 < operands (x .a)
+  -- an operation: it is known, its first input, its second, its third, and the fifth number
+  row3 : x .code ≡ 3 → (0 < operands (x .a)) × ((x .b < r) × ((inputOk (x .a) 1 r (x .c) ≡ true) × ((inputOk (x .a) 2 r (x .e) ≡ true) × (x .d ≡ 0))))
   unfolding instructionOk
-  says-op e = ltb-true _ _ (first-true (ltb 0 (operands (x .a))) _ (rw e at h))
+  row3 e =
+      let q = four (ltb 0 (operands (x .a))) (ltb (x .b) r) (inputOk (x .a) 1 r (x .c)) (inputOk (x .a) 2 r (x .e) and eqb (x .d) 0) (rw e at h) in
+      let t = q .1 .1 .1 in
+      (ltb-true _ _ (q .0), (ltb-true _ _ (q .1 .0), (q .1 .1 .0, (first-true (inputOk (x .a) 2 r (x .e)) _ t, eqb-true (x .d) 0 (second-true (inputOk (x .a) 2 r (x .e)) _ t)))))
+
+  says-op : x .code ≡ 3 → 0 < operands (x .a)
+  says-op e = row3 e .0
 
   pub says3 : x .code ≡ 3 → (x .b < r) × ((x .c < r) × (x .e < r))
-  unfolding instructionOk
-  says3 e =
-      let q = four (ltb 0 (operands (x .a))) (ltb (x .b) r) (inputOk (x .a) 1 r (x .c)) (inputOk (x .a) 2 r (x .e) and eqb (x .d) 0) (rw e at h) in
-      let l : x .b < r = ltb-true _ _ (q .1 .0) in
-      (l, (go (ltb 1 (operands (x .a))) (x .c) l (q .1 .1 .0), go (ltb 2 (operands (x .a))) (x .e) l (first-true (inputOk (x .a) 2 r (x .e)) _ (q .1 .1 .1))))
+  says3 e = let (o, (l, (y, (z, d)))) = row3 e in (l, (go (ltb 1 (operands (x .a))) (x .c) l y, go (ltb 2 (operands (x .a))) (x .e) l z))
     where
       -- an unused number is 0, and there is a register below
       go : (has : Bool) (y : ℕ) → x .b < r → pick has (ltb y r) (eqb y 0) ≡ true → y < r
@@ -66,10 +69,7 @@ module _ (cells end r : ℕ) (x : Instruction) (h : instructionOk cells end r x 
       go false y l e = omega (arith, eqb-true y 0 e)
 
   pub fifth-unused : x .code ≡ 3 → x .d ≡ 0
-  unfolding instructionOk
-  fifth-unused e =
-      let q = four (ltb 0 (operands (x .a))) (ltb (x .b) r) (inputOk (x .a) 1 r (x .c)) (inputOk (x .a) 2 r (x .e) and eqb (x .d) 0) (rw e at h) in
-      eqb-true (x .d) 0 (second-true (inputOk (x .a) 2 r (x .e)) _ (q .1 .1 .1))
+  fifth-unused e = row3 e .1 .1 .1 .1
 
   says4 : x .code ≡ 4 → (x .a < r) × ((x .b < r) × ((x .d ≤ 4095) × (x .c + suc (x .d) ≤ cells)))
   unfolding instructionOk
@@ -106,9 +106,7 @@ sixth-unused cells end r x h f = go refl (row cells end r x h)
     go : {k : ℕ} → x .code ≡ k → Row k → x .e ≡ 0
     go e number = zero-of (x .b ∷ x .c ∷ x .d ∷ x .e ∷ []) (rw e at h) .1 .1 .1 .0
     go e control = zero-of (x .b ∷ x .c ∷ x .d ∷ x .e ∷ []) (second-true (ltb (x .a) 16) _ (rw e at h)) .1 .1 .1 .0
-    go e operation =
-        let q = four (ltb 0 (operands (x .a))) (ltb (x .b) r) (inputOk (x .a) 1 r (x .c)) (inputOk (x .a) 2 r (x .e) and eqb (x .d) 0) (rw e at h) in
-        eqb-true (x .e) 0 (rw (le-ltb 2 (operands (x .a)) (f e)) at (first-true (inputOk (x .a) 2 r (x .e)) _ (q .1 .1 .1)))
+    go e operation = eqb-true (x .e) 0 (rw (le-ltb 2 (operands (x .a)) (f e)) at (row3 cells end r x h e .1 .1 .1 .0))
     go e delay =
         let q = four (ltb (x .a) r) (ltb (x .b) r) (leb (x .d) 4095) (leb (x .c + suc (x .d)) cells and eqb (x .e) 0) (rw e at h) in
         eqb-true (x .e) 0 (second-true (leb (x .c + suc (x .d)) cells) _ (q .1 .1 .1))
