@@ -12,7 +12,8 @@ use borrow.Author.Tests.{ltb-true, ltb-false, lt-ltb, le-ltb}
 use Rattle.word.specs.Choice.{pick, bit}
 use Rattle.word.specs.Word.{value, low, within, clamp, withSign}
 use Rattle.word.specs.LowBits.{Arithmetic, exact, onWords}
-use Rattle.word.specs.Operation.{add, subtract, multiply, quotient, remainder, less, equal, absolute, negate, select, operate}
+use Rattle.word.specs.Operation.{add, subtract, multiply, quotient, remainder, less, equal, absolute, negate, operate}
+use Rattle.word.proofs.Selector.{select-word}
 use Rattle.word.proofs.Low.{opposite, low-word, low-value, low-opposite, value-small, value-large, keeps-low-bits}
 
 -- "keep the low 32 bits", of the signed readings of two words
@@ -153,7 +154,7 @@ pick-word true p q = p
 pick-word false p q = q
 
 pub operate-word : (op a b c : ℕ) → b < 2 ^ 32 → c < 2 ^ 32 → operate op a b c < 2 ^ 32
-unfolding operate add subtract multiply quotient remainder less equal absolute negate select
+unfolding operate add subtract multiply quotient remainder less equal absolute negate
 operate-word op a b c hb hc =
     pick-word (eqb op 1) (low-word (value a +ℤ value b))
     (pick-word (eqb op 2) (low-word (value a -ℤ value b))
@@ -164,4 +165,4 @@ operate-word op a b c hb hc =
     (pick-word (eqb op 7) (bit-word (eqb a b))
     (pick-word (eqb op 8) (low-word (pos (natAbs (value a))))
     (pick-word (eqb op 9) (low-word (negℤ (value a)))
-    (pick-word (eqb op 10) {y = 0} (pick-word (eqb a 0) hb hc) (lit< tt))))))))))
+    (pick-word (eqb op 10) {y = 0} (select-word a b c hb hc) (lit< tt))))))))))

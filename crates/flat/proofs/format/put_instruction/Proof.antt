@@ -2,7 +2,7 @@
 use Prim.Native.Nat.{suc, _+_}
 use borrow.Author.Needs.{needs}
 use lib.ListN.{length-set}
-use mathlib.Core.Path.{_≡_, refl}
+use mathlib.Core.Path.{_≡_}
 use native.Mathlib.Omega.{arith}
 use Rattle.flat.proofs.format.put_instruction.Statement.{statement}
 use Rattle.flat.proofs.format.put_instruction.Tie as tie
