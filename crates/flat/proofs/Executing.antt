@@ -1,6 +1,6 @@
 -- A tick, instruction after instruction: what is left to execute, over the registers written so far.
 use Prim.Native.Nat.{ℕ, zero, suc, _+_, _-_, _*_, _≤_, _<_}
-use mathlib.Core.Path.{_≡_, sym, ap, ap₂, _∙_}
+use mathlib.Core.Path.{_≡_, sym, ap, ap₂, subst₂, _∙_}
 use mathlib.Core.Bool.{true}
 use mathlib.Core.List.{List, [], _∷_, _++_, append-assoc, append-nil}
 use native.Mathlib.Nat.{zero-add, add-zero, suc-add}
@@ -118,8 +118,8 @@ module _ {code keys controls : List ℕ} {target : Machine} {end p r : ℕ} {ρ 
       pub next : (r + (1 + s) ≤ length ρ) × (p + (width + width * s) ≤ length code)
       next = (omega (arith, inside, g .room), omega (arith, inside, g .place))
 
-      pub go-on : length ρ₂ ≡ length ρ → length cs₁ ≡ length cs → Going code keys controls target end (p + (width + width * s)) (r + (1 + s)) ρ₂ cs₁
-      go-on lr lc =
+      behind : length ρ₂ ≡ length ρ → length cs₁ ≡ length cs → Going code keys controls target end (p + (width + width * s)) (r + (1 + s)) ρ₂ cs₁
+      behind lr lc =
           let b : r + (1 + s) ≤ end = inside in
           let k : ℕ = end - (r + (1 + s)) in
           let e₁ : end - r ≡ suc (s + k) = omega arith in
@@ -143,6 +143,9 @@ module _ {code keys controls : List ℕ} {target : Machine} {end p r : ℕ} {ρ 
                 ∙ ap (λ l. execute controls l (machine (take r ρ) 0 cs)) (ap {B = List Instruction} (λ y. y ∷ instructionsOf (s + k) (drop (p + width) code)) i ∙ sym (instructions-next (s + k) p code) ∙ ap (λ n. instructionsOf n (drop p code)) (sym e₁))
                 ∙ g .same;
           }
+
+      pub go-on : {q o : ℕ} → length ρ₂ ≡ length ρ → length cs₁ ≡ length cs → p + (width + width * s) ≡ q → r + (1 + s) ≡ o → Going code keys controls target end q o ρ₂ cs₁
+      go-on lr lc eq eo = subst₂ (λ (q o : ℕ). Going code keys controls target end q o ρ₂ cs₁) eq eo (behind lr lc)
 
 -- the first instruction
 pub begin : (code keys controls ρ cs : List ℕ) (n c : ℕ) → n ≡ inputCount code → c ≡ instructionCount code → Ready code keys controls ρ cs

@@ -132,7 +132,12 @@ pub fn execute(
             registers,
             cells,
         );
-        p += WIDTH + WIDTH * skip;
-        own += 1 + skip;
+        p += WIDTH;
+        own += 1;
+        // apart, so that an instruction that skips nothing goes on by constants
+        if 0 < skip {
+            p += WIDTH * skip;
+            own += skip;
+        }
     }
 }

@@ -48,26 +48,32 @@ instruction-at-requires c κs = omega (arith, c .before .before .loop .inv .0 .p
 step-requires : tie.Need-step-requires Inv-loop μ-loop
 step-requires c κs = steppable (c .before .before .before .before .before .loop .inv .0) (c .before .before .before .before .loop-test .taken) (c .before .before .instruction-at .ensures)
 
-mul-p : tie.Need-mul-p Inv-loop μ-loop
-mul-p c = omega (arith, next (c .before .before .before .before .before .before .before .before .before .before .loop .inv .0) (c .before .before .before .before .before .before .before .before .before .loop-test .taken) (c .before .before .before .before .before .before .before .instruction-at .ensures) (c .before .before .before .before .step .ensures) .1)
-
 add-p : tie.Need-add-p Inv-loop μ-loop
 add-p c = omega (arith, next (c .before .before .before .before .before .before .before .before .before .before .loop .inv .0) (c .before .before .before .before .before .before .before .before .before .loop-test .taken) (c .before .before .before .before .before .before .before .instruction-at .ensures) (c .before .before .before .before .step .ensures) .1)
-
-add-p-2 : tie.Need-add-p-2 Inv-loop μ-loop
-add-p-2 c = omega (arith, next (c .before .before .before .before .before .before .before .before .before .before .loop .inv .0) (c .before .before .before .before .before .before .before .before .before .loop-test .taken) (c .before .before .before .before .before .before .before .instruction-at .ensures) (c .before .before .before .before .step .ensures) .1)
 
 add-own : tie.Need-add-own Inv-loop μ-loop
 add-own c = omega (arith, next (c .before .before .before .before .before .before .before .before .before .before .loop .inv .0) (c .before .before .before .before .before .before .before .before .before .loop-test .taken) (c .before .before .before .before .before .before .before .instruction-at .ensures) (c .before .before .before .before .step .ensures) .0)
 
+mul-p : tie.Need-mul-p Inv-loop μ-loop
+mul-p c = omega (arith, next (c .before .before .before .before .before .before .before .before .before .before .before .loop .inv .0) (c .before .before .before .before .before .before .before .before .before .before .loop-test .taken) (c .before .before .before .before .before .before .before .before .instruction-at .ensures) (c .before .before .before .before .before .step .ensures) .1)
+
+add-p-2 : tie.Need-add-p-2 Inv-loop μ-loop
+add-p-2 c = omega (arith, next (c .before .before .before .before .before .before .before .before .before .before .before .loop .inv .0) (c .before .before .before .before .before .before .before .before .before .before .loop-test .taken) (c .before .before .before .before .before .before .before .before .instruction-at .ensures) (c .before .before .before .before .before .step .ensures) .1)
+
 add-own-2 : tie.Need-add-own-2 Inv-loop μ-loop
-add-own-2 c = omega (arith, next (c .before .before .before .before .before .before .before .before .before .before .loop .inv .0) (c .before .before .before .before .before .before .before .before .before .loop-test .taken) (c .before .before .before .before .before .before .before .instruction-at .ensures) (c .before .before .before .before .step .ensures) .0)
+add-own-2 c = omega (arith, next (c .before .before .before .before .before .before .before .before .before .before .before .loop .inv .0) (c .before .before .before .before .before .before .before .before .before .before .loop-test .taken) (c .before .before .before .before .before .before .before .before .instruction-at .ensures) (c .before .before .before .before .before .step .ensures) .0)
 
 loop-less : tie.Need-loop-less Inv-loop μ-loop
-loop-less c = search needs
+loop-less c = omega arith
 
 loop-again : tie.Need-loop-again Inv-loop μ-loop
-loop-again c = (go-on (c .before .before .before .before .before .before .before .before .before .before .loop .inv .0) (c .before .before .before .before .before .before .before .before .before .loop-test .taken) (c .before .before .before .before .before .before .before .instruction-at .ensures) (c .before .before .before .before .step .ensures) (c .before .before .before .before .step .kept .1 .1 .1 .1 .0) (c .before .before .before .before .step .kept .1 .1 .1 .1 .1 .0), (c .before .before .before .before .step .kept .1 .1 .1 .1 .0 ∙ c .before .before .before .before .before .before .before .before .before .before .loop .inv .1 .0, c .before .before .before .before .step .kept .1 .1 .1 .1 .1 .0 ∙ c .before .before .before .before .before .before .before .before .before .before .loop .inv .1 .1))
+loop-again c = (go-on (c .before .before .before .before .before .before .before .before .before .before .before .loop .inv .0) (c .before .before .before .before .before .before .before .before .before .before .loop-test .taken) (c .before .before .before .before .before .before .before .before .instruction-at .ensures) (c .before .before .before .before .before .step .ensures) (c .before .before .before .before .before .step .kept .1 .1 .1 .1 .0) (c .before .before .before .before .before .step .kept .1 .1 .1 .1 .1 .0) (omega arith) (omega arith), (c .before .before .before .before .before .step .kept .1 .1 .1 .1 .0 ∙ c .before .before .before .before .before .before .before .before .before .before .before .loop .inv .1 .0, c .before .before .before .before .before .step .kept .1 .1 .1 .1 .1 .0 ∙ c .before .before .before .before .before .before .before .before .before .before .before .loop .inv .1 .1))
+
+loop-less-2 : tie.Need-loop-less-2 Inv-loop μ-loop
+loop-less-2 c = omega arith
+
+loop-again-2 : tie.Need-loop-again-2 Inv-loop μ-loop
+loop-again-2 c = (go-on (c .before .before .before .before .before .before .before .before .before .before .before .loop .inv .0) (c .before .before .before .before .before .before .before .before .before .before .loop-test .taken) (c .before .before .before .before .before .before .before .before .instruction-at .ensures) (c .before .before .before .before .before .step .ensures) (c .before .before .before .before .before .step .kept .1 .1 .1 .1 .0) (c .before .before .before .before .before .step .kept .1 .1 .1 .1 .1 .0) (omega arith) (omega arith), (c .before .before .before .before .before .step .kept .1 .1 .1 .1 .0 ∙ c .before .before .before .before .before .before .before .before .before .before .before .loop .inv .1 .0, c .before .before .before .before .before .step .kept .1 .1 .1 .1 .1 .0 ∙ c .before .before .before .before .before .before .before .before .before .before .before .loop .inv .1 .1))
 
 same-length : tie.Need-same-length Inv-loop μ-loop
 same-length c = search needs
@@ -94,13 +100,15 @@ execute-spec =
     shared-slice-read-step
     instruction-at-requires
     step-requires
-    mul-p
     add-p
-    add-p-2
     add-own
+    mul-p
+    add-p-2
     add-own-2
     loop-less
     loop-again
+    loop-less-2
+    loop-again-2
     same-length
     same-length-2
     returns)
