@@ -1,6 +1,6 @@
 //! The same interpreter in safe Rust: flat code, decoded once a call, then one match an instruction.
 use crate::engine::{Block, HEADER_NUMBERS, INSTRUCTION_NUMBERS};
-use std::hint::{black_box, select_unpredictable};
+use std::hint::black_box;
 
 const REGISTERS: usize = 32 + 2048;
 
@@ -108,8 +108,7 @@ fn tick(
             Equal(a, b) => u32::from(r[a] == r[b]),
             Absolute(a) => (r[a] as i32).unsigned_abs(),
             Negate(a) => r[a].wrapping_neg(),
-            // without a jump, as in C
-            Select(a, b, c) => select_unpredictable(r[a] == 0, r[b], r[c]),
+            Select(a, b, c) => r[if r[a] == 0 { b } else { c }],
             Delay(a, b, cell, d) => delay(&mut cells[cell..=cell + d], r[a], r[b]),
             Read(cell) => cells[cell],
             Write(cell, a) => {

@@ -16,6 +16,8 @@ use column::ENOUGH_BYTES;
 use column::ReadAnswer;
 use column::TABLE_NUMBERS;
 use flat::format::CODE_NUMBERS;
+use flat::format::INPUTS;
+use flat::format::OUTPUTS;
 use player::Stop;
 use player::circuit_bytes;
 use player::put_ticks;
@@ -92,7 +94,7 @@ fn put_block(
     requires { ⌜ Header (now code) × ((ticks ≤ 256) × (ticks * inputCount (now code) ≤ length (now samples))) ⌝ }
     ensures { λ r. ⌜ BlockPut (now (code .entry)) ticks (now (samples .entry)) (now (controls .entry)) (now (cells .entry)) (now (text .entry)) r (now (cells .exit)) (now (text .exit)) ⌝ }
 {
-    let given = ticks * index(code[0]);
+    let given = ticks * index(code[INPUTS]);
     let mut outputs = [0u32; 8192];
     flat::run(
         code,
@@ -102,7 +104,7 @@ fn put_block(
         cells,
         &mut outputs,
     );
-    put_ticks(&outputs, ticks, index(code[1]), text)
+    put_ticks(&outputs, ticks, index(code[OUTPUTS]), text)
 }
 
 // Plays a block of ticks; gives whether its lines could be written.
@@ -146,7 +148,7 @@ fn play_block(
     let at = rest.at;
     let end = rest.end;
     let mut samples = [0u32; 8192];
-    let block = read_block(&buffer[at..end], index(code[0]), &mut samples);
+    let block = read_block(&buffer[at..end], index(code[INPUTS]), &mut samples);
     let line = wrapping_add_u64(rest.line, block.ticks as u64);
     if !play_ticks(code, block.ticks, &samples, controls, cells) {
         return over(line);
@@ -198,7 +200,7 @@ fn play_code(from: i32, code: &[u32], buffer: &mut [u8], first: Rest)
 {
     let mut cells = [0u32; CELLS];
     let mut controls = [0u32; CONTROLS];
-    cells::load(code[3], &mut cells);
+    cells::load(code[flat::format::CELLS], &mut cells);
     play_blocks(from, code, &mut controls, &mut cells, buffer, first);
 }
 

@@ -9,6 +9,7 @@ use listing::PRINT_BYTES;
 use translator::TranslateAnswer;
 use walker::WalkAnswer;
 use word::index;
+use word::limits::MOST_NODES;
 
 pub fn check_table(table: &[u32]) {
     show::text(b"check");
@@ -44,7 +45,7 @@ pub fn read_file(file: &[u8], buffer: &mut [u32]) -> usize {
         ReadAnswer::Refused(r) => show::refused(r),
         ReadAnswer::Nodes(n) => {
             show::number(n);
-            if n <= 512 {
+            if n <= MOST_NODES {
                 count = 3 * index(n);
             }
         }
