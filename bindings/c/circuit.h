@@ -60,8 +60,8 @@ extern "C" {
  * node is. A way has at most 497 of the 512 nodes: an ondemand adds an input, of which there are at most 32, so that 15
  * nodes on it must have a second child. The stack of the others does not depend on what they are given.
  * bindings/c/stack_test.c measures all of them, on the deepest circuit, and calls each with just this stack. */
-#define CIRCUIT_STACK_TRANSLATE (496 * 1024) /* 483 KiB */
-#define CIRCUIT_STACK_WALK (560 * 1024)      /* 545 KiB */
+#define CIRCUIT_STACK_TRANSLATE (504 * 1024) /* 491 KiB */
+#define CIRCUIT_STACK_WALK (568 * 1024)      /* 553 KiB */
 #define CIRCUIT_STACK_RUN (32 * 1024)        /* 17 KiB */
 #define CIRCUIT_STACK_CHECK (24 * 1024)      /* 11 KiB */
 #define CIRCUIT_STACK_READ (16 * 1024)       /* below 1 KiB */

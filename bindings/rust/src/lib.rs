@@ -53,9 +53,9 @@ pub const CONTROLS: usize = 16;
 
 /// Bytes of stack for a thread that does nothing but call [`translate`], on x86-64. `bindings/c/circuit.h` says what
 /// these numbers are made of; a caller's own frames come on top.
-pub const STACK_TRANSLATE: usize = 496 * 1024;
+pub const STACK_TRANSLATE: usize = 504 * 1024;
 /// The same for [`walk`].
-pub const STACK_WALK: usize = 560 * 1024;
+pub const STACK_WALK: usize = 568 * 1024;
 /// The same for [`run`].
 pub const STACK_RUN: usize = 32 * 1024;
 /// The same for [`check`].
