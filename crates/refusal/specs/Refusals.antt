@@ -2,7 +2,7 @@
 use Prim.Native.Nat.{ℕ, suc, _-_, _%_, _^_}
 use lib.IntN.{ℤ, pos, negsuc}
 use Rattle.refusal.specs.declared.Refusal.{Refusal}
-use Rattle.refusal.specs.declared.Refusal.the-variants.{MalformedLine, WrongNodeNumber, WrongNodeCount, UnknownKind, WrongField, WrongChild, NoArityRule, TooWide, LooseNode, TooManyInstructions, TooManyCells, ShortBuffer, WrongCode, WrongBlock}
+use Rattle.refusal.specs.declared.Refusal.the-variants.{MalformedLine, WrongNodeNumber, WrongNodeCount, UnknownKind, WrongField, WrongChild, NoArityRule, TooWide, LooseNode, TooManyInstructions, TooManyCells, ShortBuffer, WrongCode, WrongBlock, WrongProbes}
 
 abbrev pub numberOf : Refusal → ℕ
 numberOf (MalformedLine p) = 1
@@ -19,6 +19,7 @@ numberOf TooManyCells = 11
 numberOf ShortBuffer = 12
 numberOf WrongCode = 13
 numberOf WrongBlock = 14
+numberOf WrongProbes = 15
 
 abbrev pub noPlace : ℤ
 noPlace = negsuc 0
@@ -39,6 +40,7 @@ placeOf TooManyCells = noPlace
 placeOf ShortBuffer = noPlace
 placeOf WrongCode = noPlace
 placeOf WrongBlock = noPlace
+placeOf WrongProbes = noPlace
 
 -- the word that stands for a place: a line or node is one already
 abbrev pub placeWord : ℤ → ℕ

@@ -33,6 +33,8 @@ pub enum Refusal {
     WrongCode,
     // 14: ticks not 0 to 4,096, inputs that are not ticks times the circuit's, or controls that are not 16
     WrongBlock,
+    // 15: an odd count of probe numbers, more than 16 probes, or one that names no output of the table
+    WrongProbes,
 }
 
 // -1, for a refusal without a place.
@@ -57,6 +59,7 @@ pub fn number(refusal: Refusal) -> u32
         Refusal::ShortBuffer => 12,
         Refusal::WrongCode => 13,
         Refusal::WrongBlock => 14,
+        Refusal::WrongProbes => 15,
     }
 }
 
@@ -79,6 +82,7 @@ fn carried(refusal: Refusal) -> u32
         Refusal::ShortBuffer => NO_PLACE,
         Refusal::WrongCode => NO_PLACE,
         Refusal::WrongBlock => NO_PLACE,
+        Refusal::WrongProbes => NO_PLACE,
     }
 }
 

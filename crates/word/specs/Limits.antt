@@ -32,3 +32,7 @@ mostCells = 16384
 -- "ticks not 0 to 4,096"
 abbrev pub mostTicks : ℕ
 mostTicks = 4096
+
+-- "more than 16 probes"
+abbrev pub mostProbes : ℕ
+mostProbes = 16

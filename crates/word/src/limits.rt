@@ -17,6 +17,8 @@ pub const MOST_CELLS: u32 = 16384;
 
 pub const MOST_TICKS: u32 = 4096;
 
+pub const MOST_PROBES: u32 = 16;
+
 // The same as the sizes of lists.
 pub const NODES: usize = MOST_NODES as usize;
 
@@ -25,3 +27,5 @@ pub const BEAM: usize = WIDEST as usize;
 pub const CONTROLS: usize = SLOTS as usize;
 
 pub const CELLS: usize = MOST_CELLS as usize;
+
+pub const PROBES: usize = MOST_PROBES as usize;
