@@ -10,13 +10,15 @@ use lib.ListN.{length, getD}
 use Rattle.word.specs.Operation.{demand}
 use Rattle.word.specs.Tick.{Beam, Tick, tick, headOr, zeros}
 use Rattle.arity.specs.Tree.{Tree, outs}
-use Rattle.arity.specs.Tree.Tree.{leaf, ondemand}
-use Rattle.arity.specs.Tree.Primitive.{number, delay}
+use Rattle.arity.specs.Tree.Tree.{leaf, join, ondemand}
+use Rattle.arity.specs.Tree.Composition.{parallel}
+use Rattle.arity.specs.Tree.Primitive.{number, delay, cable}
 use Rattle.arity.specs.Nodes.{Numbered, Distinct, subtree}
 use Rattle.arity.specs.WellFormed.{WellFormed}
 use Rattle.signal.specs.Signal.{demands, signal}
 use Rattle.signal.specs.History.{own}
 use Rattle.signal.specs.Contents.{contents}
+use Rattle.signal.specs.Wire.{Probe, wireAfter, watched}
 use Rattle.signal.specs.Clock.{Clock, demandsBefore, down, up, _⊗_, upTo, ticks, clocked}
 use Rattle.signal.specs.Samples.{Sample, meaning, benchSamples}
 use Rattle.signal.specs.Laws.{WordTick}
@@ -64,13 +66,33 @@ module _ (xs controls : Beam) where
   abbrev b₀ : Tree
   b₀ = leaf 0 (delay 1)
 
+  abbrev wire₀ : Probe
+  wire₀ = record { node = 0; output = 0 }
+
   resting : (contents b₀ (own (ondemand 1 b₀) (tick (0 ∷ xs) controls ∷ []) 0) ≡ contents b₀ (own (ondemand 1 b₀) [] 0))
       × (contents (ondemand 1 b₀) (tick (0 ∷ xs) controls ∷ []) ≡ contents (ondemand 1 b₀) [])
       × (contents (ondemand 1 b₀) [] ≡ zeros 1)
+      × (wireAfter (ondemand 1 b₀) (tick (0 ∷ xs) controls ∷ []) wire₀ ≡ wireAfter (ondemand 1 b₀) [] wire₀)
+      × (wireAfter (ondemand 1 b₀) [] wire₀ ≡ 0)
   unfolding own subtree Numbered Distinct demand outs
   resting =
       let r = quiet (ondemand 1 b₀) b₀ (tt, λ e. absurd (let z : _≡_ {A = ℕ} 0 1 = e in omega arith)) 1 (inl refl) refl (tick (0 ∷ xs) controls) [] refl in
-      (r .body 0 refl, r .held, r .before refl)
+      (r .body 0 refl, r .held, r .before refl, r .wires wire₀ refl, r .wiresBefore wire₀ refl refl)
+
+-- an ondemand cable with the clock 0 -1 0 and the input 5 7 9: its body's wire, named twice, and its own output show 0 7 7
+body-shown : (controls : Beam)
+    → watched (ondemand 1 (leaf 0 cable)) (record { node = 0; output = 0 } ∷ record { node = 1; output = 0 } ∷ record { node = 0; output = 0 } ∷ [])
+    (tick (0 ∷ 9 ∷ []) controls ∷ tick (most ∷ 7 ∷ []) controls ∷ tick (0 ∷ 5 ∷ []) controls ∷ [])
+    ≡ (7 ∷ 7 ∷ 7 ∷ []) ∷ (7 ∷ 7 ∷ 7 ∷ []) ∷ (0 ∷ 0 ∷ 0 ∷ []) ∷ []
+unfolding watched demand outs
+body-shown controls = refl
+
+-- two numbers beside each other, the second named first: its value stands first
+order-named : (controls : Beam)
+    → watched (join 2 parallel (leaf 0 (number 5)) (leaf 1 (number 7))) (record { node = 1; output = 0 } ∷ record { node = 0; output = 0 } ∷ []) (tick [] controls ∷ [])
+    ≡ (7 ∷ 5 ∷ []) ∷ []
+unfolding watched
+order-named controls = refl
 
 -- the last sample of the table
 abbrev last : Sample

@@ -1,6 +1,7 @@
 pub mod Beams
 pub mod Causal
 pub mod Own
+pub mod Wire
 pub mod Quiet
 pub mod Words
 pub mod Star

@@ -3,7 +3,7 @@ use Prim.Native.Nat.{ℕ}
 use mathlib.Core.Path.{_≡_, refl}
 use mathlib.Core.Bool.{Bool, true, false}
 use mathlib.Core.Logic.{_⊎_, inl, inr}
-use mathlib.Core.List.{_∷_}
+use mathlib.Core.List.{[], _∷_}
 use lib.Dec.{eqb}
 use Rattle.word.specs.Choice.{pick}
 use Rattle.word.specs.Tick.{Tick, tick, tailOf}
@@ -16,6 +16,38 @@ use Rattle.arity.proofs.Paths.{has-number, left-not-root, right-not-root, right
 use Rattle.signal.specs.Signal.{History, signal, fill, sums, demanded, demands}
 use Rattle.signal.specs.History.{leftHistory, rightHistory, own}
 use Rattle.signal.proofs.Causal.{causal, wire-next, map-next, loop-left-next, loop-right-next}
+
+-- no tick, no own tick
+pub left-start : (c : Composition) (l r : Tree) → leftHistory c l r [] ≡ []
+unfolding leftHistory
+left-start sequence l r = refl
+left-start parallel l r = refl
+left-start split l r = refl
+left-start merge l r = refl
+left-start recursion l r = refl
+
+pub right-start : (c : Composition) (l r : Tree) → rightHistory c l r [] ≡ []
+unfolding rightHistory
+right-start sequence l r = refl
+right-start parallel l r = refl
+right-start split l r = refl
+right-start merge l r = refl
+right-start recursion l r = refl
+
+pub own-start : (t : Tree) (j : ℕ) → own t [] j ≡ []
+unfolding own
+own-start (leaf i p) j = refl
+own-start (join i c l r) j = rw (left-start c l r, right-start c l r) (go (eqb i j) (has l j) (own-start l j) (own-start r j))
+  where
+    go : (a b : Bool) {x y : History} → x ≡ [] → y ≡ [] → pick a [] (pick b x y) ≡ []
+    go true b p q = refl
+    go false true p q = p
+    go false false p q = q
+own-start (ondemand i b) j = go (eqb i j) (own-start b j)
+  where
+    go : (a : Bool) {x : History} → x ≡ [] → pick a [] x ≡ []
+    go true p = refl
+    go false p = p
 
 -- a composition's sides have a tick more at each tick
 abbrev Longer : History → History → Type 0

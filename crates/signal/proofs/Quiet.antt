@@ -5,7 +5,7 @@ use mathlib.Core.Bool.{Bool, true, false}
 use mathlib.Core.Logic.{inl, inr}
 use mathlib.Core.List.{[], _∷_}
 use native.Mathlib.Omega.{arith}
-use lib.ListN.{length}
+use lib.ListN.{length, getD}
 use Rattle.word.specs.Choice.{pick}
 use Rattle.word.specs.Tick.{Beam, Tick, tick, headOr, tailOf, zeros}
 use Rattle.arity.specs.Tree.{Tree, outs}
@@ -15,9 +15,11 @@ use Rattle.arity.proofs.Paths.{body-not-root, subtree-distinct}
 use Rattle.signal.specs.Signal.{History, signal, demanded, demands}
 use Rattle.signal.specs.History.{own, NoDemand}
 use Rattle.signal.specs.Contents.{contents}
+use Rattle.signal.specs.Wire.{wireAfter}
 use Rattle.signal.specs.Laws.{BodyRests, AllBodiesRest}
 use Rattle.signal.proofs.Causal.{causal}
-use Rattle.signal.proofs.Own.{Grows, own-grows, own-through}
+use Rattle.signal.proofs.Own.{Grows, own-grows, own-through, own-start}
+use Rattle.signal.proofs.Wire.{no-tick}
 
 demands-stay : (h h′ : History) → Grows h h′ → length (demands h′) ≡ length (demands h) → demands h′ ≡ demands h
 demands-stay h h′ (inl e) l = ap demands e
@@ -27,6 +29,10 @@ demands-stay h h′ (inr (g, e)) l = ap demands e ∙ go (demanded g) (ap length
         → pick d (tick (tailOf (g .inputs)) (g .controls) ∷ demands h) (demands h) ≡ demands h
     go true k = absurd (omega arith)
     go false k = refl
+
+none : (h : History) → length h ≡ 0 → h ≡ []
+none [] e = refl
+none (f ∷ h) e = absurd (omega arith)
 
 -- node i of t is an ondemand with the body b
 module _ (t b : Tree) (d : Distinct t) (i : ℕ) (m : Numbered t i) (s : subtree t i ≡ ondemand i b) where
@@ -45,16 +51,22 @@ module _ (t b : Tree) (d : Distinct t) (i : ℕ) (m : Numbered t i) (s : subtree
   holds h = rw s
 
   none-yet : (h : History) → length h ≡ 0 → latestDemand h ≡ zeros (outs b)
-  none-yet [] e = rw (causal b .empty)
-  none-yet (f ∷ h) e = absurd (omega arith)
+  none-yet h e = rw (none h e, causal b .empty)
+
+  -- the own history of each node of the body
+  stays : (h h′ : History) → demands (own t h′ i) ≡ demands (own t h i) → (j : ℕ) → Numbered b j → own t h′ j ≡ own t h j
+  stays h h′ e j n = body-own h′ j n ∙ ap (λ x. own b x j) e ∙ sym (body-own h j n)
 
   rests : (f : Tick) (h : History) → NoDemand t i f h → BodyRests t b i f h
+  unfolding wireAfter
   rests f h q =
       let e : demands (own t (f ∷ h) i) ≡ demands (own t h i) = demands-stay (own t h i) (own t (f ∷ h) i) (own-grows t f h i) q in
       record {
-        body = λ j n. ap (contents (subtree t j)) (body-own (f ∷ h) j n ∙ ap (λ x. own b x j) e ∙ sym (body-own h j n));
+        body = λ j n. ap (contents (subtree t j)) (stays h (f ∷ h) e j n);
         held = holds (own t (f ∷ h) i) ∙ ap latestDemand e ∙ sym (holds (own t h i));
         before = λ l. holds (own t h i) ∙ none-yet (demands (own t h i)) l;
+        wires = λ p n. ap (λ x. getD (headOr [] (signal (subtree t (p .node)) x)) (p .output) 0) (stays h (f ∷ h) e (p .node) n);
+        wiresBefore = λ p n l. no-tick t h p (body-own h (p .node) n ∙ ap (λ x. own b x (p .node)) (none (demands (own t h i)) l) ∙ own-start b (p .node));
       }
 
 pub quiet : AllBodiesRest

@@ -11,6 +11,7 @@ use Rattle.arity.specs.WellFormed.{WellFormed}
 use Rattle.signal.specs.Signal.{History, Processor, demands, signal}
 use Rattle.signal.specs.History.{own, NoDemand}
 use Rattle.signal.specs.Contents.{contents}
+use Rattle.signal.specs.Wire.{Probe, wireAfter}
 
 -- a tick adds one beam to the outputs, and leaves the earlier ones as they were
 pub record Causal (p : Processor) : Type 0 where
@@ -46,6 +47,9 @@ pub record BodyRests (t b : Tree) (i : ℕ) (f : Tick) (h : History) : Type 0 wh
   pub held : contents (subtree t i) (own t (f ∷ h) i) ≡ contents (subtree t i) (own t h i)
   -- 0 where there was no demand yet
   pub before : length (demands (own t h i)) ≡ 0 → contents (subtree t i) (own t h i) ≡ zeros (outs b)
+  -- what the wires of the body show, "and 0 before that"
+  pub wires : (p : Probe) → Numbered b (p .node) → wireAfter t (f ∷ h) p ≡ wireAfter t h p
+  pub wiresBefore : (p : Probe) → Numbered b (p .node) → length (demands (own t h i)) ≡ 0 → wireAfter t h p ≡ 0
 
 abbrev pub AllBodiesRest : Type 0
 AllBodiesRest = (t b : Tree) → Distinct t → (i : ℕ) → Numbered t i → subtree t i ≡ ondemand i b → (f : Tick) (h : History) → NoDemand t i f h → BodyRests t b i f h

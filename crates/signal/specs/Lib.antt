@@ -3,4 +3,5 @@ pub mod History
 pub mod Contents
 pub mod Clock
 pub mod Samples
+pub mod Wire
 pub mod Laws
