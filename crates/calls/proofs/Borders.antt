@@ -1,10 +1,9 @@
 -- The law of a list of calls where its premises just hold: a premise that asked for more would fail here.
 use Prim.Native.Nat.{ℕ}
-use mathlib.Core.Path.{_≡_, refl, sym, ap, _∙_}
+use mathlib.Core.Path.{_≡_, refl}
 use mathlib.Core.List.{List, [], _++_}
 use native.Mathlib.Omega.{arith}
-use lib.ListN.{length, take, length-append}
-use lib.Seq.{take-at, drop-at}
+use lib.ListN.{length}
 use Rattle.refusal.specs.Answer.{count}
 use Rattle.cells.specs.Load.{loaded}
 use Rattle.arity.specs.Tree.{Tree}
@@ -14,8 +13,7 @@ use Rattle.signal.specs.Signal.{History}
 use Rattle.signal.specs.Contents.{cellsAfter}
 use Rattle.calls.specs.Calls.{Program, Element, OthersRefused}
 use Rattle.calls.specs.Law.{IsProgramOf, LawfulThroughout}
-use Rattle.calls.proofs.Run.{walk-right}
-use Rattle.calls.proofs.Plays.{cells-long}
+use Rattle.calls.proofs.Law.{holds-around}
 use Rattle.calls.proofs.Throughout.{from-past}
 use Rattle.calls.proofs.Loads.{from-load}
 
@@ -32,10 +30,4 @@ module _ (n : ℕ) (t : Tree) (w : WellFormed t) (c : Complete n t) (work : Prog
   anywhere : (front behind : List ℕ) (past : History) (list : List Element) → OthersRefused work (length front) (front ++ (cellsAfter n t past ++ behind)) list
       → LawfulThroughout n t work (length front) past (front ++ (cellsAfter n t past ++ behind)) list
   anywhere front behind past =
-      let cells : List ℕ = cellsAfter n t past in
-      let long : length cells ≡ N = ap length (sym (walk-right n t w c past .cells)) ∙ cells-long n t w c past in
-      from-past n t w c work same (length front) past (front ++ (cells ++ behind))
-      (record {
-        inside = omega (arith, length-append front (cells ++ behind));
-        cells = ap (take N) (drop-at front (cells ++ behind) (length front) refl) ∙ take-at cells behind N long;
-      })
+      from-past n t w c work same (length front) past (front ++ (cellsAfter n t past ++ behind)) (holds-around n t w c (length front) past front behind refl)

@@ -24,6 +24,14 @@ use Rattle.calls.specs.Law.{IsProgramOf}
 use Rattle.calls.proofs.Plays.{cellsAt, cells-long}
 use Rattle.calls.proofs.Walks.{walks, continues}
 
+-- the first k of a list are lent if m are, as far as it goes
+pub lent-enough : (k m : ℕ) (xs : List ℕ) → k ≤ length xs → leb k (length (take m xs)) ≡ leb k m
+lent-enough k m xs h =
+    let l : length (take m xs) ≡ min m (length xs) = length-take m xs in
+    same-test (leb k (length (take m xs))) (leb k m)
+    (λ g. let u = leb→le k (length (take m xs)) g in le→leb k m (omega arith))
+    (λ g. let u = leb→le k m g in le→leb k (length (take m xs)) (omega arith))
+
 module _ (n : ℕ) (t : Tree) (w : WellFormed t) (c : Complete n t) (front behind : List ℕ) where
   -- the circuit's cells after a history, with those before and behind them
   abbrev pub around : History → List ℕ
@@ -60,12 +68,7 @@ module _ (n : ℕ) (t : Tree) (w : WellFormed t) (c : Complete n t) (front behin
 
     -- enough is lent if the circuit's cells are
     room : leb N (length given) ≡ leb N (a .lent)
-    room =
-        let l : length given ≡ min (a .lent) (length tail) = length-take (a .lent) tail in
-        let k : length tail ≡ N + length behind = length-append (cellsAt n t w c h) behind ∙ ap (λ x. x + length behind) (cells-long n t w c h) in
-        same-test (leb N (length given)) (leb N (a .lent))
-        (λ g. let u = leb→le N (length given) g in le→leb N (a .lent) (omega arith))
-        (λ g. let u = leb→le N (a .lent) g in le→leb N (length given) (omega arith))
+    room = lent-enough N (a .lent) tail (omega (arith, length-append (cellsAt n t w c h) behind, cells-long n t w c h))
 
     abbrev run : Ran
     run = walks n t (a .ticks) (a .inputs) (a .controls) given (a .outputs)

@@ -2,9 +2,10 @@
 use Prim.Native.Nat.{ℕ}
 use mathlib.Core.Path.{_≡_, sym, ap, _∙_}
 use mathlib.Core.List.{List, [], _∷_, _++_, map, reverseAux, reverseAux-append, flatten, append-assoc, append-nil}
+use native.Mathlib.Omega.{arith}
 use lib.IntN.{ℤ}
-use lib.ListN.{length, drop, take, take-append-drop}
-use lib.Seq.{length-take-le}
+use lib.ListN.{length, drop, take, length-append, take-append-drop}
+use lib.Seq.{length-take-le, take-at, drop-at}
 use Rattle.word.specs.Tick.{Tick, Each}
 use Rattle.refusal.specs.Answer.Answer.{refused}
 use Rattle.cells.specs.Block.{Ran, unchanged, counted}
@@ -12,18 +13,32 @@ use Rattle.arity.specs.Tree.{Tree, ins}
 use Rattle.arity.specs.Nodes.{Complete, cellsBefore}
 use Rattle.arity.specs.WellFormed.{WellFormed}
 use Rattle.signal.specs.Signal.{History, samples}
+use Rattle.signal.specs.Contents.{cellsAfter}
 use Rattle.calls.specs.Calls.{Call, Refused, Element, Program, RefusedIfOther, lentTo, resultOf, blockAfter, callOf, eventOf, events, left, ticksAdded, addedBy, written, OthersRefused}
 use Rattle.calls.specs.Calls as calls
 use Rattle.calls.specs.Calls.Element.{own, other}
 use Rattle.calls.specs.Law.{Answered, RefusedWroteNothing, KeptRest, Lawful, IsProgramOf, HoldsPast, history}
 use Rattle.calls.proofs.Run.{walk-right}
 use Rattle.calls.proofs.NewSamples.{samples-since}
+use Rattle.calls.proofs.Plays.{cells-long}
 use Rattle.calls.proofs.Handled.{around, Leaves, refused-leaves, own-call, own-nothing}
 
 -- a call that is refused is refused by its answer
 refused-nothing : (call : Call) (cells : List ℕ) → Refused call cells → (x : ℕ) (p : ℤ) → call .work cells .answer ≡ refused x p
     → call .work cells ≡ unchanged (refused x p) cells (call .outputs)
 refused-nothing call cells r x p e = r .nothing ∙ ap (λ z. unchanged z cells (call .outputs)) (sym (ap (λ (y : Ran). y .answer) (r .nothing)) ∙ e)
+
+-- the cells after a past, with others before and behind them
+pub holds-around : (n : ℕ) (t : Tree) → WellFormed t → Complete n t → (at : ℕ) (past : History) (front behind : List ℕ) → length front ≡ at
+    → HoldsPast n t at past (front ++ (cellsAfter n t past ++ behind))
+holds-around n t w c at past front behind long =
+    let cells : List ℕ = cellsAfter n t past in
+    let N : ℕ = cellsBefore t n in
+    let many : length cells ≡ N = ap length (sym (walk-right n t w c past .cells)) ∙ cells-long n t w c past in
+    record {
+      inside = omega (arith, length-append front (cells ++ behind));
+      cells = ap (take N) (drop-at front (cells ++ behind) at long) ∙ take-at cells behind N many;
+    }
 
 module _ (n : ℕ) (t : Tree) (w : WellFormed t) (c : Complete n t) (work : Program) (same : IsProgramOf n t work) (at : ℕ) where
   -- all ticks that the calls add

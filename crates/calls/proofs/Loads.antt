@@ -19,7 +19,7 @@ use Rattle.arity.specs.Tree.{Tree}
 use Rattle.arity.specs.Nodes.{Complete, cellsBefore}
 use Rattle.arity.specs.WellFormed.{WellFormed}
 use Rattle.calls.specs.Calls.{Program, Refused}
-use Rattle.calls.specs.Law.{IsProgramOf}
+use Rattle.calls.specs.Law.{IsProgramOf, HoldsPast}
 use Rattle.calls.specs.Loads.{LawfulFromLoad, loadCall}
 use Rattle.calls.proofs.Run.{after, walk-right}
 use Rattle.calls.proofs.Throughout.{from-past}
@@ -51,12 +51,16 @@ cleared named cells e k h = go (loaded named cells) (load-end named cells) e
     go l clears f = first-zeros k named (drop named cells) h
     go l (refuses x) f = absurd (let z : _≡_ {A = ℕ} 0 1 = cc in omega arith)
 
--- after the load the block holds the cells of the empty history
-pub from-load : (n : ℕ) (t : Tree) → WellFormed t → Complete n t → (work : Program) → IsProgramOf n t work → (d : ℕ) → cellsBefore t n ≤ d → LawfulFromLoad n t work d
+-- after a load that named enough the block holds the cells of the empty history
+pub load-holds : (n : ℕ) (t : Tree) → WellFormed t → Complete n t → (d : ℕ) → cellsBefore t n ≤ d
+    → (named : ℕ) (cells : List ℕ) → loaded named cells .answer ≡ count named → d ≤ named → HoldsPast n t 0 [] (loaded named cells .buffer)
 unfolding after
+load-holds n t w c d enough named cells e h =
+    record { inside = omega arith; cells = cleared named cells e (cellsBefore t n) (omega arith) ∙ walk-right n t w c [] .cells }
+
+pub from-load : (n : ℕ) (t : Tree) → WellFormed t → Complete n t → (work : Program) → IsProgramOf n t work → (d : ℕ) → cellsBefore t n ≤ d → LawfulFromLoad n t work d
 from-load n t w c work same d enough named cells e h =
-    from-past n t w c work same 0 [] (loaded named cells .buffer)
-    (record { inside = omega arith; cells = cleared named cells e (cellsBefore t n) (omega arith) ∙ walk-right n t w c [] .cells })
+    from-past n t w c work same 0 [] (loaded named cells .buffer) (load-holds n t w c d enough named cells e h)
 
 pub refused-load : (named from lent : ℕ) (cells : List ℕ) (x : ℕ) (p : ℤ) → loaded named cells .answer ≡ refused x p → Refused (loadCall named from lent) cells
 refused-load named from lent cells x p e = record { number = x; place = p; nothing = go (loaded named cells) (load-end named cells) e }

@@ -9,16 +9,16 @@ use lib.Seq.{take-all}
 use Rattle.word.specs.Tick.{Beam, zeros}
 use Rattle.cells.specs.Cells.{part}
 use Rattle.cells.proofs.Parts.{part-zeros, part-all}
-use Rattle.arity.specs.Tree.{Tree, Composition, ins, size}
+use Rattle.arity.specs.Tree.{Tree, ins, size}
 use Rattle.arity.specs.Tree.Tree.{leaf, join, ondemand}
 use Rattle.arity.specs.Tree.Primitive.{number, control, operation, delay, cable, cut}
 use Rattle.arity.specs.Tree.Composition.{sequence, parallel, split, merge, recursion}
 use Rattle.arity.specs.Nodes.{Complete, cellsBefore}
 use Rattle.arity.specs.WellFormed.{WellFormed}
 use Rattle.signal.specs.Signal.{History, signal}
-use Rattle.signal.specs.History.{leftHistory, rightHistory}
 use Rattle.signal.specs.Contents.{contents, ring, cellsAfter}
 use Rattle.signal.proofs.Causal.{causal}
+use Rattle.signal.proofs.Own.{left-start, right-start}
 use Rattle.calls.specs.Step.{step}
 use Rattle.calls.proofs.Holds.{Placed, Holds}
 use Rattle.calls.proofs.Works.{works}
@@ -59,22 +59,6 @@ contents-start (join i split l r) = refl
 contents-start (join i merge l r) = refl
 contents-start (join i recursion l r) = take-all (ins r) (zeros (ins r)) (rw length-replicate (omega arith))
 contents-start (ondemand i b) = rw (causal b .empty)
-
-left-start : (c : Composition) (l r : Tree) → leftHistory c l r [] ≡ []
-unfolding leftHistory
-left-start sequence l r = refl
-left-start parallel l r = refl
-left-start split l r = refl
-left-start merge l r = refl
-left-start recursion l r = refl
-
-right-start : (c : Composition) (l r : Tree) → rightHistory c l r [] ≡ []
-unfolding rightHistory
-right-start sequence l r = refl
-right-start parallel l r = refl
-right-start split l r = refl
-right-start merge l r = refl
-right-start recursion l r = refl
 
 pub start : (base : ℕ → ℕ) (n : ℕ) (t : Tree) → Placed base n t → Holds base t [] (zeros n)
 unfolding Placed Holds

@@ -22,11 +22,11 @@ use Rattle.calls.proofs.Cut.{cut-accepted, whole-cut, adds-next}
 use Rattle.calls.proofs.QuietCells.{quiet-tick}
 
 module _ {A : Type 0} (P : A → Type 0) where
-  each-before : (xs ys : List A) → Each P (xs ++ ys) → Each P xs
+  pub each-before : (xs ys : List A) → Each P (xs ++ ys) → Each P xs
   each-before [] ys p = tt
   each-before (x ∷ xs) ys (p, ps) = (p, each-before xs ys ps)
 
-  each-after : (xs ys : List A) → Each P (xs ++ ys) → Each P ys
+  pub each-after : (xs ys : List A) → Each P (xs ++ ys) → Each P ys
   each-after [] ys p = p
   each-after (x ∷ xs) ys (p, ps) = each-after xs ys ps
 

@@ -1,5 +1,9 @@
 pub mod Wiring
 pub mod Step
+pub mod Probes
+pub mod Probed
 pub mod Calls
 pub mod Law
 pub mod Loads
+pub mod ProbedCalls
+pub mod Recorded
