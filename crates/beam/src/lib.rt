@@ -133,3 +133,15 @@ pub fn keep(cells: &mut [u32], base: usize, n: usize, a: [u32; BEAM])
         i += 1;
     }
 }
+
+// A list, kept from `base` on.
+pub fn keep_list(cells: &mut [u32], base: usize, list: &[u32])
+    requires { ⌜ base + length (now list) ≤ length (now cells) ⌝ }
+    ensures { λ _. ⌜ now (cells .exit) ≡ store base (now (list .entry)) (now (cells .entry)) ⌝ }
+{
+    let mut i: usize = 0;
+    while i < list.len() {
+        cells[base + i] = list[i];
+        i += 1;
+    }
+}

@@ -1,0 +1,4 @@
+pub mod Zips
+pub mod LastOn
+pub mod Marking
+pub mod Noting
