@@ -92,7 +92,7 @@ module _ {table shape : List ℕ} {i : ℕ} (ready : Ready table shape) (d : Dem
   own : Node table i
   own = ready .node i (d .inside)
 
-  demand-is : tree table i ≡ ondemand i (leftTree table i)
+  pub demand-is : tree table i ≡ ondemand i (leftTree table i)
   demand-is = own .isOndemand (omega (arith, d .kind))
 
   pub body-in : firstAt table i < i
@@ -112,18 +112,18 @@ module _ {table shape : List ℕ} {i : ℕ} (ready : Ready table shape) (d : Dem
   unfolding outs
   outs-same = ap outs demand-is
 
-  ins-more : ins (tree table i) ≡ suc (ins (leftTree table i))
+  pub ins-more : ins (tree table i) ≡ suc (ins (leftTree table i))
   unfolding ins
   ins-more = ap ins demand-is
 
-  clock-is : (xs : List ℕ) → headOr 0 (take (ins (tree table i)) xs) ≡ getD xs 0 0
+  pub clock-is : (xs : List ℕ) → headOr 0 (take (ins (tree table i)) xs) ≡ getD xs 0 0
   clock-is xs = ap (λ (n : ℕ). headOr 0 (take n xs)) ins-more ∙ first xs
     where
       first : (l : List ℕ) → headOr 0 (take (suc (ins (leftTree table i))) l) ≡ getD l 0 0
       first [] = refl
       first (x ∷ l) = refl
 
-  rest-is : (xs : List ℕ) → tailOf (take (ins (tree table i)) xs) ≡ take (ins (leftTree table i)) (drop 1 xs)
+  pub rest-is : (xs : List ℕ) → tailOf (take (ins (tree table i)) xs) ≡ take (ins (leftTree table i)) (drop 1 xs)
   rest-is xs = ap (λ (n : ℕ). tailOf (take n xs)) ins-more ∙ rest xs
     where
       rest : (l : List ℕ) → tailOf (take (suc (ins (leftTree table i))) l) ≡ take (ins (leftTree table i)) (drop 1 l)

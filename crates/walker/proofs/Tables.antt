@@ -11,7 +11,7 @@ use Rattle.arity.specs.Check.{checked, answerOf as checkOf}
 use Rattle.arity.specs.Survey.{surveyed}
 use Rattle.arity.proofs.Promise.{promise, rows}
 use Rattle.walker.specs.Ready.{Surveyed}
-use Rattle.walker.specs.Walk.{walkedBy, walkedTable}
+use Rattle.walker.specs.Walk.{probedBy, probedTable}
 
 module _ (table : List ℕ) {o : CheckAnswer} (k : checkOf o ≡ checked table) where
   -- an accepted table has been surveyed
@@ -27,7 +27,8 @@ module _ (table : List ℕ) {o : CheckAnswer} (k : checkOf o ≡ checked table) 
         cells-are = p .celled;
       }
 
-  pub walked-by : (ticks : ℕ) (inputs controls cells outputs : List ℕ) {a : CheckAnswer} → o ≡ a
-      → walkedBy (checkOf a) table ticks inputs controls cells outputs ≡ walkedTable table ticks inputs controls cells outputs
-  unfolding walkedTable
-  walked-by ticks inputs controls cells outputs e = ap (λ (x : Answer). walkedBy x table ticks inputs controls cells outputs) (sym (ap checkOf e) ∙ k)
+  pub probed-by : (xs : List ℕ) (ticks : ℕ) (inputs controls cells outputs latest recording : List ℕ) {a : CheckAnswer} → o ≡ a
+      → probedBy (checkOf a) table xs ticks inputs controls cells outputs latest recording ≡ probedTable table xs ticks inputs controls cells outputs latest recording
+  unfolding probedTable
+  probed-by xs ticks inputs controls cells outputs latest recording e =
+      ap (λ (x : Answer). probedBy x table xs ticks inputs controls cells outputs latest recording) (sym (ap checkOf e) ∙ k)

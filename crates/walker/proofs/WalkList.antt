@@ -59,7 +59,7 @@ module _ (table : List ℕ) (a : Arguments) (cells : List ℕ) (x : ℕ) (p : �
   refused-walk from e = record { number = x; place = p; nothing = walk-nothing e }
 
 module _ (table : List ℕ) (n m i d : ℕ) (k : checked table ≡ counts (n ∷ m ∷ i ∷ d ∷ [])) (words : Words table) (few : d ≤ 16384) where
-  own-walk : IsProgramOf (nodes table) (circuit table) (walkOf table)
+  pub own-walk : IsProgramOf (nodes table) (circuit table) (walkOf table)
   unfolding walkedTable walked
   own-walk a cells =
       rw (k, is-most (cellsBefore (circuit table) (nodes table)) 16384 (omega (arith, promise k words .celled)))

@@ -5,7 +5,7 @@ use mathlib.Core.List.{List}
 use lib.Dec.{eqb}
 use lib.ListN.{length, take}
 use Rattle.word.specs.Choice.{pick}
-use Rattle.word.specs.Limits.{mostNodes}
+use Rattle.word.specs.Limits.{mostNodes, controlCount, mostTicks}
 use Rattle.word.specs.Tick.{Beam, Tick, tick, Stepped, stepped}
 use Rattle.cells.specs.Cells.{part}
 use Rattle.arity.specs.Tree.{Tree, Composition, ins, outs}
@@ -101,6 +101,7 @@ pub record Playable (table shape : List ℕ) (root n m ticks : ℕ) (inputs cell
   pub last : root ≡ nodes table - 1
   pub inputs-are : n ≡ ins (circuit table)
   pub outputs-are : m ≡ outs (circuit table)
+  pub short : ticks ≤ mostTicks
   pub reads : length inputs ≡ ticks * n
   pub writes : length outputs ≡ ticks * m
   pub room : length cells ≡ base table (nodes table)
@@ -112,3 +113,12 @@ pub record Surveyed (table shape : List ℕ) (n m cells : ℕ) : Type 0 where
   pub inputs-are : n ≡ ins (circuit table)
   pub outputs-are : m ≡ outs (circuit table)
   pub cells-are : cells ≡ base table (nodes table)
+
+-- what a call of so many ticks asks that is not refused: its block has the inputs, and its buffers are as long as needed
+pub record Walkable (table shape : List ℕ) (n m k ticks : ℕ) (inputs controls cells outputs : List ℕ) : Type 0 where
+  pub surveyed : Surveyed table shape n m k
+  pub short : ticks ≤ mostTicks
+  pub reads : length inputs ≡ ticks * n
+  pub controls-are : length controls ≡ controlCount
+  pub cells-fit : k ≤ length cells
+  pub outputs-fit : ticks * m ≤ length outputs

@@ -11,21 +11,26 @@ use arity::rows::cell_of;
 use arity::rows::inputs_of;
 use arity::rows::outputs_of;
 use beam::after;
-use beam::entry;
 use beam::fetched;
 use beam::keep;
 use beam::one;
 use cells::delay_at;
+use probes::MARKS;
+use probes::note;
 use word::demand;
 use word::index;
 use word::limits::BEAM;
+use word::limits::CONTROLS;
 use word::operate;
 ghost use mathlib.Core.Path.{_≡_};
-ghost use Prim.Native.Nat.{_≤_};
-ghost use lib.ListN.{length, getD};
+ghost use mathlib.Core.List.{List};
+ghost use Prim.Native.Nat.{ℕ, _≤_, _<_};
+ghost use lib.ListN.{length, getD, take};
+ghost use Rattle.word.specs.Limits.{widest};
 ghost use Rattle.cells.specs.Cells.{store};
 ghost use Rattle.arity.specs.Table.{kindAt};
 ghost use Rattle.walker.specs.Ready.{base, outsOf, Ready, Roomy, Inside, Demands, Holding, Ticked};
+ghost use Rattle.walker.specs.Probing.{Watching, Watched, ShowedBelow};
 
 // The number at a place, 0 past the end.
 fn number_at(s: &[u32], at: usize) -> u32
@@ -37,20 +42,31 @@ fn number_at(s: &[u32], at: usize) -> u32
     0
 }
 
+// The input at `at` of the n inputs of a node, and 0 past those.
+fn input_at(ins: &[u32; BEAM], n: usize, at: usize) -> u32
+    requires { ⌜ at < widest ⌝ }
+    ensures { λ r. ⌜ r ≡ getD (take n (now (ins .entry))) at 0 ⌝ }
+{
+    if n <= at {
+        return 0;
+    }
+    ins[at]
+}
+
 // One tick of a primitive.
 fn leaf_step(
     table: &[u32],
     shape: &[u32; SHAPE],
     node: usize,
-    controls: &[u32],
-    ins: [u32; BEAM],
+    controls: &[u32; CONTROLS],
+    ins: &[u32; BEAM],
     cells: &mut [u32],
 ) -> [u32; BEAM]
     requires { ⌜ Ready (now table) (now shape) ⌝ }
     requires { ⌜ Inside (now table) node ⌝ }
     requires { ⌜ kindAt (now table) node ≤ 6 ⌝ }
     requires { ⌜ Roomy (now table) (length (now cells)) ⌝ }
-    ensures { λ r. ⌜ Ticked (now (table .entry)) (now (controls .entry)) node ins (now (cells .entry)) r (now (cells .exit)) ⌝ }
+    ensures { λ r. ⌜ Ticked (now (table .entry)) (now (controls .entry)) node (now (ins .entry)) (now (cells .entry)) r (now (cells .exit)) ⌝ }
 {
     let kind = kind_of(table, node);
     let value = first_of(table, node);
@@ -64,9 +80,9 @@ fn leaf_step(
     if kind == 3 {
         return one(operate(
             value,
-            entry(&ins, n, 0),
-            entry(&ins, n, 1),
-            entry(&ins, n, 2),
+            input_at(ins, n, 0),
+            input_at(ins, n, 1),
+            input_at(ins, n, 2),
         ));
     }
     if kind == 4 {
@@ -74,15 +90,15 @@ fn leaf_step(
             cells,
             cell_of(shape, node),
             index(value),
-            entry(&ins, n, 0),
-            entry(&ins, n, 1),
+            input_at(ins, n, 0),
+            input_at(ins, n, 1),
         );
         return one(delayed.value);
     }
     if kind == 5 {
-        return one(entry(&ins, n, 0));
+        return one(input_at(ins, n, 0));
     }
-    ins
+    *ins
 }
 
 // The outputs that an ondemand holds.
@@ -105,45 +121,41 @@ fn hold(table: &[u32], shape: &[u32; SHAPE], node: usize, y: [u32; BEAM], cells:
     keep(cells, cell_of(shape, node), outputs_of(shape, node), y);
 }
 
-// One tick of a node: a primitive, an ondemand, or a composition, whose children run one after the other.
+// One tick of a node: a primitive, an ondemand, or a composition, whose children run one after the other. Whoever has a node worked notes its outputs for
+// its probes: so they need not be copied once more.
 pub fn circuit_step(
     table: &[u32],
     shape: &[u32; SHAPE],
     node: usize,
-    controls: &[u32],
-    ins: [u32; BEAM],
+    controls: &[u32; CONTROLS],
+    ins: &[u32; BEAM],
     cells: &mut [u32],
+    marks: &[u32; MARKS],
+    latest: &mut [u32],
 ) -> [u32; BEAM]
     requires { ⌜ Ready (now table) (now shape) ⌝ }
     requires { ⌜ Inside (now table) node ⌝ }
     requires { ⌜ Roomy (now table) (length (now cells)) ⌝ }
-    ensures { λ r. ⌜ Ticked (now (table .entry)) (now (controls .entry)) node ins (now (cells .entry)) r (now (cells .exit)) ⌝ }
+    requires { ⌜ Watched (now table) (length (now latest)) (now marks) ⌝ }
+    ensures { λ r. ⌜ Ticked (now (table .entry)) (now (controls .entry)) node (now (ins .entry)) (now (cells .entry)) r (now (cells .exit)) ⌝ }
+    ensures { λ _. ⌜ ((xs : List ℕ) → Watching (now (table .entry)) xs (length (now (latest .entry))) (now (marks .entry))
+        → ShowedBelow (now (table .entry)) (now (controls .entry)) xs node (now (ins .entry)) (now (cells .entry)) (now (latest .entry)) (now (latest .exit))) ⌝ }
 {
     let kind = kind_of(table, node);
     if kind <= 6 {
         return leaf_step(table, shape, node, controls, ins, cells);
     }
     if kind == 12 {
-        return demand_step(table, shape, node, controls, ins, cells);
+        return demand_step(table, shape, node, controls, ins, cells, marks, latest);
     }
     let first = first_child(table, node);
     let second = second_child(table, node);
-    let y = circuit_step(
-        table,
-        shape,
-        first,
-        controls,
-        first_input(table, shape, node, ins, cells),
-        cells,
-    );
-    let z = circuit_step(
-        table,
-        shape,
-        second,
-        controls,
-        second_input(table, shape, node, ins, y),
-        cells,
-    );
+    let x = first_input(table, shape, node, *ins, cells);
+    let y = circuit_step(table, shape, first, controls, &x, cells, marks, latest);
+    note(marks, first, y, latest);
+    let w = second_input(table, shape, node, *ins, y);
+    let z = circuit_step(table, shape, second, controls, &w, cells, marks, latest);
+    note(marks, second, z, latest);
     finish(table, shape, node, y, z, cells)
 }
 
@@ -152,18 +164,25 @@ fn demand_step(
     table: &[u32],
     shape: &[u32; SHAPE],
     node: usize,
-    controls: &[u32],
-    ins: [u32; BEAM],
+    controls: &[u32; CONTROLS],
+    ins: &[u32; BEAM],
     cells: &mut [u32],
+    marks: &[u32; MARKS],
+    latest: &mut [u32],
 ) -> [u32; BEAM]
     requires { ⌜ Ready (now table) (now shape) ⌝ }
     requires { ⌜ Demands (now table) node ⌝ }
     requires { ⌜ Roomy (now table) (length (now cells)) ⌝ }
-    ensures { λ r. ⌜ Ticked (now (table .entry)) (now (controls .entry)) node ins (now (cells .entry)) r (now (cells .exit)) ⌝ }
+    requires { ⌜ Watched (now table) (length (now latest)) (now marks) ⌝ }
+    ensures { λ r. ⌜ Ticked (now (table .entry)) (now (controls .entry)) node (now (ins .entry)) (now (cells .entry)) r (now (cells .exit)) ⌝ }
+    ensures { λ _. ⌜ ((xs : List ℕ) → Watching (now (table .entry)) xs (length (now (latest .entry))) (now (marks .entry))
+        → ShowedBelow (now (table .entry)) (now (controls .entry)) xs node (now (ins .entry)) (now (cells .entry)) (now (latest .entry)) (now (latest .exit))) ⌝ }
 {
     if demand(ins[0]) {
         let body = index(first_of(table, node));
-        let y = circuit_step(table, shape, body, controls, after(ins, 1), cells);
+        let x = after(*ins, 1);
+        let y = circuit_step(table, shape, body, controls, &x, cells, marks, latest);
+        note(marks, body, y, latest);
         hold(table, shape, node, y, cells);
     }
     held(table, shape, node, cells)
