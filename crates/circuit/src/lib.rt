@@ -12,7 +12,7 @@ ghost use mathlib.Core.Path.{_≡_};
 ghost use Rattle.refusal.specs.Answer.{refusalOf};
 ghost use Rattle.cells.specs.Load.{loaded};
 ghost use Rattle.column.specs.File.{reading, writing};
-ghost use Rattle.walker.specs.Walk.{walkedTable};
+ghost use Rattle.walker.specs.Walk.{answerOf, walkedTable, probedTable};
 ghost use Rattle.translator.specs.Translate.{translatedTable};
 ghost use Rattle.flat.specs.Run.{ran};
 ghost use Rattle.circuit.specs.Encoded.{encoded};
@@ -107,6 +107,16 @@ pub extern "C" fn circuit_load(named: u32, cells: &mut [u32]) -> u64
     }
 }
 
+// The answer of a walk.
+fn walked(answer: WalkAnswer) -> u64
+    ensures { λ r. ⌜ r ≡ encoded (answerOf answer) ⌝ }
+{
+    match answer {
+        WalkAnswer::Refused(r) => return refused(r),
+        WalkAnswer::Samples(n) => return n as u64,
+    }
+}
+
 // The walker: a block of ticks of a table.
 #[no_mangle]
 pub extern "C" fn circuit_walk(
@@ -122,10 +132,40 @@ pub extern "C" fn circuit_walk(
     ensures outputs { λ _. ⌜ now (outputs .exit) ≡ walkedTable (now (table .entry)) ticks (now (inputs .entry)) (now (controls .entry)) (now (cells .entry)) (now (outputs .entry)) .outputs ⌝ }
 {
     let answer = walker::walk(table, ticks, inputs, controls, cells, outputs);
-    match answer {
-        WalkAnswer::Refused(r) => return refused(r),
-        WalkAnswer::Samples(n) => return n as u64,
-    }
+    walked(answer)
+}
+
+// The walker with probes: beside a block's samples what the probes show at each of its ticks, and what they showed last.
+#[no_mangle]
+pub extern "C" fn circuit_walk_probed(
+    table: &[u32],
+    probes: &[u32],
+    ticks: u32,
+    inputs: &[u32],
+    controls: &[u32],
+    cells: &mut [u32],
+    outputs: &mut [u32],
+    latest: &mut [u32],
+    recording: &mut [u32],
+) -> u64
+    ensures answer { λ r. ⌜ r ≡ encoded (probedTable (now (table .entry)) (now (probes .entry)) ticks (now (inputs .entry)) (now (controls .entry)) (now (cells .entry)) (now (outputs .entry)) (now (latest .entry)) (now (recording .entry)) .ran .answer) ⌝ }
+    ensures cells { λ _. ⌜ now (cells .exit) ≡ probedTable (now (table .entry)) (now (probes .entry)) ticks (now (inputs .entry)) (now (controls .entry)) (now (cells .entry)) (now (outputs .entry)) (now (latest .entry)) (now (recording .entry)) .ran .cells ⌝ }
+    ensures outputs { λ _. ⌜ now (outputs .exit) ≡ probedTable (now (table .entry)) (now (probes .entry)) ticks (now (inputs .entry)) (now (controls .entry)) (now (cells .entry)) (now (outputs .entry)) (now (latest .entry)) (now (recording .entry)) .ran .outputs ⌝ }
+    ensures latest { λ _. ⌜ now (latest .exit) ≡ probedTable (now (table .entry)) (now (probes .entry)) ticks (now (inputs .entry)) (now (controls .entry)) (now (cells .entry)) (now (outputs .entry)) (now (latest .entry)) (now (recording .entry)) .latest ⌝ }
+    ensures recording { λ _. ⌜ now (recording .exit) ≡ probedTable (now (table .entry)) (now (probes .entry)) ticks (now (inputs .entry)) (now (controls .entry)) (now (cells .entry)) (now (outputs .entry)) (now (latest .entry)) (now (recording .entry)) .recording ⌝ }
+{
+    let answer = walker::walk_probed(
+        table,
+        probes,
+        ticks,
+        inputs,
+        controls,
+        cells,
+        outputs,
+        latest,
+        recording,
+    );
+    walked(answer)
 }
 
 // The runner: a block of ticks of a flat code.

@@ -1,7 +1,7 @@
 -- `circuit::circuit_run` meets its contract.
 use mathlib.Core.Path.{refl}
 use Rattle.flat.specs.Run.{answerOf}
-use Rattle.circuit.proofs.Answers.{ran-gives}
+use Rattle.circuit.proofs.Answers.{encodes, ran-gives}
 use borrow.Author.Needs.{needs}
 use Rattle.circuit.proofs.circuit_run.Statement.{statement}
 use Rattle.circuit.proofs.circuit_run.Tie as tie
@@ -22,7 +22,7 @@ same-length-2 : tie.Need-same-length-2
 same-length-2 c = search needs
 
 returns : tie.Need-returns
-returns c = ran-gives answerOf (c .refused .ensures) (c .before .before .answer .given .1) _ (c .before .before .before .before .before .before .before .before .run .ensures)
+returns c = ran-gives (encodes answerOf (c .refused .ensures) (c .before .before .answer .given .1)) _ (c .before .before .before .before .before .before .before .before .run .ensures)
 
 enum-known-answer-2 : tie.Need-enum-known-answer-2
 enum-known-answer-2 c = search needs
@@ -37,7 +37,7 @@ same-length-4 : tie.Need-same-length-4
 same-length-4 c = search needs
 
 returns-2 : tie.Need-returns-2
-returns-2 c = ran-gives answerOf refl (c .before .answer2 .given .1) _ (c .before .before .before .before .before .before .before .run .ensures)
+returns-2 c = ran-gives (encodes answerOf refl (c .before .answer2 .given .1)) _ (c .before .before .before .before .before .before .before .run .ensures)
 
 pub circuit-run-spec : {M : Type 1} → statement M
 circuit-run-spec =

@@ -1,6 +1,4 @@
 -- `circuit::circuit_walk` meets its contract.
-use mathlib.Core.Path.{refl}
-use Rattle.walker.specs.Walk.{answerOf}
 use Rattle.circuit.proofs.Answers.{ran-gives}
 use borrow.Author.Needs.{needs}
 use Rattle.circuit.proofs.circuit_walk.Statement.{statement}
@@ -9,11 +7,8 @@ use Rattle.circuit.proofs.circuit_walk.Tie as tie
 walk-requires : tie.Need-walk-requires
 walk-requires c κs = search needs
 
-enum-known-answer : tie.Need-enum-known-answer
-enum-known-answer c = search needs
-
-refused-requires : tie.Need-refused-requires
-refused-requires c κs = search needs
+walked-requires : tie.Need-walked-requires
+walked-requires c κs = search needs
 
 same-length : tie.Need-same-length
 same-length c = search needs
@@ -22,35 +17,8 @@ same-length-2 : tie.Need-same-length-2
 same-length-2 c = search needs
 
 returns : tie.Need-returns
-returns c = ran-gives answerOf (c .refused .ensures) (c .before .before .answer .given .1) _ (c .before .before .before .before .before .before .before .before .walk .ensures)
-
-enum-known-answer-2 : tie.Need-enum-known-answer-2
-enum-known-answer-2 c = search needs
-
-cast-result : tie.Need-cast-result
-cast-result c = search needs
-
-same-length-3 : tie.Need-same-length-3
-same-length-3 c = search needs
-
-same-length-4 : tie.Need-same-length-4
-same-length-4 c = search needs
-
-returns-2 : tie.Need-returns-2
-returns-2 c = ran-gives answerOf refl (c .before .answer2 .given .1) _ (c .before .before .before .before .before .before .before .walk .ensures)
+returns c = ran-gives (c .walked .ensures) _ (c .before .before .before .before .before .walk .ensures)
 
 pub circuit-walk-spec : {M : Type 1} → statement M
 circuit-walk-spec =
-    tie.close
-    (tie.spec
-    walk-requires
-    enum-known-answer
-    refused-requires
-    same-length
-    same-length-2
-    returns
-    enum-known-answer-2
-    cast-result
-    same-length-3
-    same-length-4
-    returns-2)
+    tie.close (tie.spec walk-requires walked-requires same-length same-length-2 returns)
