@@ -96,6 +96,14 @@ pub fn load_cells(named: u32, cells: &mut [u32]) {
     }
 }
 
+fn show_walked(answer: WalkAnswer, outputs: &[u32]) {
+    match answer {
+        WalkAnswer::Refused(r) => show::refused(r),
+        WalkAnswer::Samples(n) => show::number(n),
+    }
+    show_buffer(outputs);
+}
+
 pub fn walk_block(
     table: &[u32],
     ticks: u32,
@@ -106,11 +114,38 @@ pub fn walk_block(
 ) {
     show::text(b"walk");
     let answer = walker::walk(table, ticks, inputs, controls, cells, outputs);
-    match answer {
-        WalkAnswer::Refused(r) => show::refused(r),
-        WalkAnswer::Samples(n) => show::number(n),
-    }
-    show_buffer(outputs);
+    show_walked(answer, outputs);
+}
+
+// A walk with probes; the latest values and the recording on lines of their own.
+pub fn probed_block(
+    table: &[u32],
+    probes: &[u32],
+    ticks: u32,
+    inputs: &[u32],
+    controls: &[u32],
+    cells: &mut [u32],
+    outputs: &mut [u32],
+    latest: &mut [u32],
+    recording: &mut [u32],
+) {
+    show::text(b"probed");
+    let answer = walker::walk_probed(
+        table,
+        probes,
+        ticks,
+        inputs,
+        controls,
+        cells,
+        outputs,
+        latest,
+        recording,
+    );
+    show_walked(answer, outputs);
+    show::text(b"latest");
+    show::list(latest);
+    show::text(b"recorded");
+    show::list(recording);
 }
 
 pub fn run_block(

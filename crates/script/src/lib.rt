@@ -1,6 +1,7 @@
 // Scripts over the entries of the engine: docs/SCRIPT.md has their form.
 mod calls;
 mod lines;
+mod probed;
 mod show;
 mod text;
 
@@ -20,6 +21,7 @@ pub(crate) struct Sizes {
     pub code: usize,
     pub inputs: usize,
     pub controls: usize,
+    pub probes: usize,
     pub file: usize,
 }
 
@@ -37,6 +39,8 @@ fn set_numbers(
     code: &mut [u32],
     inputs: &mut [u32],
     controls: &mut [u32],
+    probes: &mut [u32],
+    latest: &mut [u32],
 ) -> Sizes {
     let mut s = sizes;
     if is(line, b"table") {
@@ -53,6 +57,14 @@ fn set_numbers(
     }
     if is(line, b"controls") {
         s.controls = read_list(line, 8, controls);
+        return s;
+    }
+    if is(line, b"probes") {
+        s.probes = read_list(line, 6, probes);
+        return s;
+    }
+    if is(line, b"latest") {
+        read_list(line, 6, latest);
         return s;
     }
     s
@@ -221,15 +233,28 @@ fn play_line(
     code: &mut [u32],
     inputs: &mut [u32],
     controls: &mut [u32],
+    probes: &mut [u32],
+    latest: &mut [u32],
     file: &mut [u8],
     walked: &mut [u32],
     ran: &mut [u32],
     buffer: &mut [u32],
 ) -> Step {
     play_memory(line, walked, ran);
-    let set = set_numbers(line, sizes, table, code, inputs, controls);
+    let set = set_numbers(line, sizes, table, code, inputs, controls, probes, latest);
     let s = play_table(line, set, table, code, file, buffer);
     play_block(line, s, table, code, inputs, controls, walked, ran, buffer);
+    probed::play_probed(
+        line,
+        s,
+        table,
+        probes,
+        inputs,
+        controls,
+        walked,
+        buffer,
+        latest,
+    );
     play_file(line, rest, s, file)
 }
 
@@ -252,6 +277,8 @@ fn play_piece(
     code: &mut [u32],
     inputs: &mut [u32],
     controls: &mut [u32],
+    probes: &mut [u32],
+    latest: &mut [u32],
     file: &mut [u8],
     walked: &mut [u32],
     ran: &mut [u32],
@@ -273,6 +300,8 @@ fn play_piece(
             code,
             inputs,
             controls,
+            probes,
+            latest,
             file,
             walked,
             ran,
@@ -291,6 +320,8 @@ fn play_pieces(
     code: &mut [u32],
     inputs: &mut [u32],
     controls: &mut [u32],
+    probes: &mut [u32],
+    latest: &mut [u32],
     file: &mut [u8],
     walked: &mut [u32],
     ran: &mut [u32],
@@ -301,6 +332,7 @@ fn play_pieces(
         code: 0,
         inputs: 0,
         controls: 0,
+        probes: 0,
         file: 0,
     };
     let mut left: u32 = 1000;
@@ -316,6 +348,8 @@ fn play_pieces(
             code,
             inputs,
             controls,
+            probes,
+            latest,
             file,
             walked,
             ran,
@@ -332,6 +366,8 @@ pub fn play() {
     let mut code = [0u32; 13000];
     let mut inputs = [0u32; 131200];
     let mut controls = [0u32; 32];
+    let mut probes = [0u32; 64];
+    let mut latest = [0u32; 40];
     let mut file = [0u8; 21100];
     let mut walked = [0u32; 17000];
     let mut ran = [0u32; 17000];
@@ -342,6 +378,8 @@ pub fn play() {
         &mut code,
         &mut inputs,
         &mut controls,
+        &mut probes,
+        &mut latest,
         &mut file,
         &mut walked,
         &mut ran,

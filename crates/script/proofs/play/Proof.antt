@@ -25,16 +25,22 @@ slice-aggregate-play-pieces-5 : tie.Need-slice-aggregate-play-pieces-5
 slice-aggregate-play-pieces-5 c = zeros-length 32
 
 slice-aggregate-play-pieces-6 : tie.Need-slice-aggregate-play-pieces-6
-slice-aggregate-play-pieces-6 c = zeros-length 21100
+slice-aggregate-play-pieces-6 c = zeros-length 64
 
 slice-aggregate-play-pieces-7 : tie.Need-slice-aggregate-play-pieces-7
-slice-aggregate-play-pieces-7 c = zeros-length 17000
+slice-aggregate-play-pieces-7 c = zeros-length 40
 
 slice-aggregate-play-pieces-8 : tie.Need-slice-aggregate-play-pieces-8
-slice-aggregate-play-pieces-8 c = zeros-length 17000
+slice-aggregate-play-pieces-8 c = zeros-length 21100
 
 slice-aggregate-play-pieces-9 : tie.Need-slice-aggregate-play-pieces-9
-slice-aggregate-play-pieces-9 c = zeros-length 131200
+slice-aggregate-play-pieces-9 c = zeros-length 17000
+
+slice-aggregate-play-pieces-10 : tie.Need-slice-aggregate-play-pieces-10
+slice-aggregate-play-pieces-10 c = zeros-length 17000
+
+slice-aggregate-play-pieces-11 : tie.Need-slice-aggregate-play-pieces-11
+slice-aggregate-play-pieces-11 c = zeros-length 131200
 
 play-pieces-requires : tie.Need-play-pieces-requires
 play-pieces-requires c κs = search needs
@@ -55,5 +61,7 @@ play-spec =
     slice-aggregate-play-pieces-7
     slice-aggregate-play-pieces-8
     slice-aggregate-play-pieces-9
+    slice-aggregate-play-pieces-10
+    slice-aggregate-play-pieces-11
     play-pieces-requires
     returns)
