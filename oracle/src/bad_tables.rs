@@ -6,7 +6,7 @@ use crate::column::text;
 use crate::good_cases::circuit;
 use crate::random::Random;
 use crate::samples::{operands, ops, BEYOND};
-use crate::script::Command;
+use crate::script::{Command, Lent};
 
 pub fn bad_table_case(random: &mut Random) -> Vec<Command> {
     let size = 2 + random.below(12);
@@ -24,10 +24,26 @@ pub fn bad_table_case(random: &mut Random) -> Vec<Command> {
             6 if bad.len().is_multiple_of(3) => {
                 case.extend([Command::File(text(&bad)), Command::Print]);
             }
+            7 => case.extend(probed(random)),
             _ => {}
         }
     }
     case
+}
+
+/// A walk with probes that is refused for its table, and might be for its ticks, its probes and its
+/// buffers.
+fn probed(random: &mut Random) -> [Command; 2] {
+    let named: [&[u32]; 4] = [&[], &[0], &[0, 0], &[u32::MAX, 0]];
+    let lent = Lent {
+        ticks: random.within(-1, 1) as u32,
+        cells: 0,
+        out: random.below(2),
+        latest: 0,
+        recording: random.below(2),
+    };
+    let named = random.pick(&named).to_vec();
+    [Command::Probes(named), Command::Probed(lent)]
 }
 
 /// The table with one or two things wrong.

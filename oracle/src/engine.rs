@@ -15,6 +15,21 @@ pub struct Counts {
     pub cells: u32,
 }
 
+/// What a call brings for its block.
+pub struct Block<'a> {
+    pub ticks: u32,
+    pub inputs: &'a [u32],
+    pub controls: &'a [u32],
+}
+
+/// What a walk with probes is lent besides. E5: "each given as a node and an output of it, counted
+/// from 0"; "a lent list, one number a probe"; "a lent buffer".
+pub struct Probes<'a> {
+    pub named: &'a [u32],
+    pub latest: &'a mut [u32],
+    pub recording: &'a mut [u32],
+}
+
 pub trait Engine {
     fn check(&self, table: &[u32]) -> Result<Counts, Refusal>;
     fn read(&self, file: &[u8], table: &mut [u32]) -> Result<u32, Refusal>;
@@ -29,6 +44,14 @@ pub trait Engine {
         controls: &[u32],
         cells: &mut [u32],
         outputs: &mut [u32],
+    ) -> Result<u32, Refusal>;
+    fn walk_probed(
+        &self,
+        table: &[u32],
+        block: &Block,
+        cells: &mut [u32],
+        outputs: &mut [u32],
+        probes: &mut Probes,
     ) -> Result<u32, Refusal>;
     fn run(
         &self,

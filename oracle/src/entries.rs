@@ -1,11 +1,12 @@
 //! The oracle's answers to the calls that use cells. Samples and cells come from the meaning
 //! over the whole history wherever there is one; elsewhere from the interpreter.
 
-use crate::arity::check;
-use crate::engine::{Counts, Refusal};
+use crate::arity::{check, Checked};
+use crate::engine::{Block, Counts, Probes, Refusal};
 use crate::flat::{self, MOST_CELLS};
 use crate::meaning::Meaning;
-use crate::translate::code;
+use crate::probes::{walk_by, wires, Recorder};
+use crate::samples::operate;
 
 /// What is known of a memory.
 enum Life {
@@ -18,13 +19,6 @@ enum Life {
 
 /// One memory's past.
 pub struct Past(Life);
-
-/// What a call brings for its block.
-pub struct Block<'a> {
-    pub ticks: u32,
-    pub inputs: &'a [u32],
-    pub controls: &'a [u32],
-}
 
 impl Default for Past {
     fn default() -> Past {
@@ -54,15 +48,30 @@ impl Past {
         cells: &mut [u32],
         outputs: &mut [u32],
     ) -> Result<u32, Refusal> {
-        let checked = check(table)?;
-        if checked.counts.cells as usize > MOST_CELLS {
-            return Err(Refusal::nowhere(11));
-        }
-        block_fits(&checked.counts, block, cells, outputs)?;
-        if !self.tell(table, block, cells, outputs) {
-            self.interpret(&code(table, &checked), block, cells, outputs);
-        }
-        Ok(block.ticks * checked.counts.outputs)
+        let counts = walkable(table)?.counts;
+        block_fits(&counts, block)?;
+        room(&counts, block.ticks, cells, outputs)?;
+        self.go_on(table, block, cells, outputs, &mut Recorder::none());
+        Ok(block.ticks * counts.outputs)
+    }
+
+    /// E5: "Refusal 15 .. is checked after 14 and before 12."
+    pub fn walk_probed(
+        &mut self,
+        table: &[u32],
+        block: &Block,
+        cells: &mut [u32],
+        outputs: &mut [u32],
+        probes: &mut Probes,
+    ) -> Result<u32, Refusal> {
+        let checked = walkable(table)?;
+        let counts = checked.counts;
+        block_fits(&counts, block)?;
+        let wires = wires(probes.named, &checked)?;
+        room(&counts, block.ticks, cells, outputs)?;
+        let mut recorder = Recorder::new(wires, block.ticks, probes)?;
+        self.go_on(table, block, cells, outputs, &mut recorder);
+        Ok(block.ticks * counts.outputs)
     }
 
     /// "Runner: 13, 14, 12." `table` is the one whose translation the code is, if it is one's.
@@ -75,12 +84,31 @@ impl Past {
         outputs: &mut [u32],
     ) -> Result<u32, Refusal> {
         let counts = flat::check(code)?;
-        block_fits(&counts, block, cells, outputs)?;
-        let told = table.is_some_and(|table| self.tell(table, block, cells, outputs));
+        block_fits(&counts, block)?;
+        room(&counts, block.ticks, cells, outputs)?;
+        let none = &mut Recorder::none();
+        let told = table.is_some_and(|table| self.tell(table, block, cells, outputs, none));
         if !told {
-            self.interpret(code, block, cells, outputs);
+            let ticks = block.ticks as usize;
+            flat::interpret(code, block.inputs, block.controls, cells, outputs, ticks);
+            self.interpreted(block);
         }
         Ok(block.ticks * counts.outputs)
+    }
+
+    /// An accepted walk.
+    fn go_on(
+        &mut self,
+        table: &[u32],
+        block: &Block,
+        cells: &mut [u32],
+        outputs: &mut [u32],
+        recorder: &mut Recorder,
+    ) {
+        if !self.tell(table, block, cells, outputs, recorder) {
+            walk_by(operate, table, block, cells, outputs, recorder);
+            self.interpreted(block);
+        }
     }
 
     /// Adds the block to the history, if there is one, and writes what the meaning says.
@@ -90,6 +118,7 @@ impl Past {
         block: &Block,
         cells: &mut [u32],
         outputs: &mut [u32],
+        recorder: &mut Recorder,
     ) -> bool {
         let checked = check(table).expect("an accepted table");
         let counts = checked.counts;
@@ -106,17 +135,21 @@ impl Past {
         let (n, m) = (counts.inputs as usize, counts.outputs as usize);
         for tick in 0..block.ticks as usize {
             let inputs = &block.inputs[tick * n..(tick + 1) * n];
+            let wires = recorder.wires.clone();
+            let before: Vec<usize> = wires.iter().map(|&wire| meaning.reached(wire)).collect();
             let samples = meaning.tick(inputs, block.controls);
             outputs[tick * m..(tick + 1) * m].copy_from_slice(&samples);
+            recorder.tick(tick, |i| {
+                let reached = meaning.reached(wires[i]) > before[i];
+                reached.then(|| meaning.shows(wires[i]))
+            });
         }
         cells[..counts.cells as usize].copy_from_slice(&meaning.cells());
         true
     }
 
-    fn interpret(&mut self, code: &[u32], block: &Block, cells: &mut [u32], outputs: &mut [u32]) {
-        let ticks = block.ticks as usize;
-        flat::interpret(code, block.inputs, block.controls, cells, outputs, ticks);
-        if ticks > 0 {
+    fn interpreted(&mut self, block: &Block) {
+        if block.ticks > 0 {
             self.0 = Life::Unknown;
         }
     }
@@ -126,14 +159,17 @@ impl Past {
     }
 }
 
-/// Row 14, then row 12: "ticks not 0 to 4,096; inputs not ticks × n; controls not 16", and
-/// "the buffer to be filled or changed is shorter than needed; last".
-fn block_fits(
-    counts: &Counts,
-    block: &Block,
-    cells: &[u32],
-    outputs: &[u32],
-) -> Result<(), Refusal> {
+/// A table that the walker takes: the table's rows, then row 11.
+fn walkable(table: &[u32]) -> Result<Checked, Refusal> {
+    let checked = check(table)?;
+    if checked.counts.cells as usize > MOST_CELLS {
+        return Err(Refusal::nowhere(11));
+    }
+    Ok(checked)
+}
+
+/// Row 14: "ticks not 0 to 4,096; inputs not ticks × n; controls not 16".
+fn block_fits(counts: &Counts, block: &Block) -> Result<(), Refusal> {
     let ticks = block.ticks as usize;
     if ticks > 4096
         || block.inputs.len() != ticks * counts.inputs as usize
@@ -141,6 +177,12 @@ fn block_fits(
     {
         return Err(Refusal::nowhere(14));
     }
+    Ok(())
+}
+
+/// Row 12: "the buffer to be filled or changed is shorter than needed; last".
+fn room(counts: &Counts, ticks: u32, cells: &[u32], outputs: &[u32]) -> Result<(), Refusal> {
+    let ticks = ticks as usize;
     if cells.len() < counts.cells as usize || outputs.len() < ticks * counts.outputs as usize {
         return Err(Refusal::nowhere(12));
     }

@@ -117,20 +117,49 @@ pub fn interpret_by(
     outputs: &mut [u32],
     ticks: usize,
 ) {
-    let (n, m, c) = (code[0] as usize, code[1] as usize, code[2] as usize);
+    let (n, m) = (code[0] as usize, code[1] as usize);
     for tick in 0..ticks {
-        let mut registers = inputs[tick * n..(tick + 1) * n].to_vec();
-        // "At the start of a tick those are 0."
-        registers.resize(n + c, 0);
-        let mut i = 0;
-        while i < c {
-            let six = instruction(code, i);
-            i += 1 + step(operate, &six, n + i, &mut registers, controls, cells);
-        }
-        for (j, &register) in self::outputs(code).iter().enumerate() {
-            outputs[tick * m + j] = registers[register as usize];
+        let inputs = &inputs[tick * n..(tick + 1) * n];
+        let traced = trace(operate, code, inputs, controls, cells);
+        traced.give(code, &mut outputs[tick * m..(tick + 1) * m]);
+    }
+}
+
+/// What a tick leaves: every register, and of each instruction whether it was worked.
+pub struct Trace {
+    pub registers: Vec<u32>,
+    pub worked: Vec<bool>,
+}
+
+impl Trace {
+    /// The outputs of the tick.
+    pub fn give(&self, code: &[u32], outputs: &mut [u32]) {
+        for (output, &register) in outputs.iter_mut().zip(self::outputs(code)) {
+            *output = self.registers[register as usize];
         }
     }
+}
+
+/// One tick of checked code.
+pub fn trace(
+    operate: Operate,
+    code: &[u32],
+    inputs: &[u32],
+    controls: &[u32],
+    cells: &mut [u32],
+) -> Trace {
+    let (n, c) = (code[0] as usize, code[2] as usize);
+    let mut registers = inputs.to_vec();
+    // "At the start of a tick those are 0."
+    registers.resize(n + c, 0);
+    let mut worked = vec![false; c];
+    let mut i = 0;
+    while i < c {
+        let six = instruction(code, i);
+        worked[i] = true;
+        i += 1 + step(operate, &six, n + i, &mut registers, controls, cells);
+    }
+    Trace { registers, worked }
 }
 
 /// One instruction; gives how many it skips.

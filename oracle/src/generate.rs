@@ -5,6 +5,7 @@ use crate::bad_files::{bad_file_case, round_case};
 use crate::bad_tables::bad_table_case;
 use crate::good_cases::{good_case, long_case, usual_size};
 use crate::limit_cases::{limit_case, nodes_case, operations_case};
+use crate::probe_cases::probed_case;
 use crate::random::Random;
 use crate::random_codes::{operands_case, random_code_case};
 use crate::script::Command;
@@ -45,6 +46,7 @@ fn one(random: &mut Random, number: usize) -> (&'static str, Vec<Command>) {
         280..=379 => ("damaged code", bad_code_case(random)),
         380..=429 => ("random code", random_code_case(random)),
         430..=479 => ("garbage cells", garbage_case(random)),
+        480..=629 => ("probes", probed_case(random)),
         _ => {
             let size = usual_size(random);
             ("circuit", good_case(random, size))

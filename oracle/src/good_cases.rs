@@ -120,7 +120,7 @@ pub fn inputs(random: &mut Random, circuit: &Circuit, ticks: usize) -> Vec<u32> 
     roles.map(value).map(|v| v as u32).collect()
 }
 
-fn ticks(random: &mut Random) -> usize {
+pub fn ticks(random: &mut Random) -> usize {
     match random.below(20) {
         0 => 0,
         1 | 2 => 1,

@@ -58,6 +58,8 @@ pub struct Graph {
     pub demands: Vec<Demand>,
     /// By node number.
     pub memories: Vec<Memory>,
+    /// By node number, the signals that the node gives, all in one time.
+    pub wires: Vec<Vec<Id>>,
     pub outputs: Vec<Id>,
 }
 
@@ -70,6 +72,7 @@ impl Graph {
                 clock: 0,
             }],
             memories: vec![Memory::None; checked.arities.len()],
+            wires: vec![Vec::new(); checked.arities.len()],
             outputs: Vec::new(),
         };
         let inputs = (0..checked.counts.inputs as usize)
@@ -89,14 +92,16 @@ impl Graph {
     /// The signals that node `number` gives for the signals `ins`, all in `time`.
     fn propagate(&mut self, source: &Source, number: usize, time: Time, ins: Vec<Id>) -> Vec<Id> {
         let node = Node::at(source.table, number);
-        match node.kind {
+        let outs = match node.kind {
             5 => ins,
             6 => vec![],
             1..=4 => vec![self.primitive(&node, number, time, &ins)],
             11 => self.recursion(source, number, time, ins),
             12 => self.ondemand(source, number, time, ins),
             _ => self.composition(source, &node, time, ins),
-        }
+        };
+        self.wires[number].clone_from(&outs);
+        outs
     }
 
     fn primitive(&mut self, node: &Node, number: usize, time: Time, ins: &[Id]) -> Id {

@@ -18,6 +18,8 @@ pub mod limit_cases;
 pub mod meaning;
 pub mod parse;
 pub mod play_cases;
+pub mod probe_cases;
+pub mod probes;
 pub mod programs;
 pub mod random;
 pub mod random_codes;

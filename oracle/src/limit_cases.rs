@@ -9,7 +9,7 @@ use crate::flat::WIDTH;
 use crate::good_cases::Circuit;
 use crate::random::Random;
 use crate::samples::{ops, SELECTOR};
-use crate::script::Command;
+use crate::script::{Command, Lent};
 
 pub fn limit_case(random: &mut Random) -> Vec<Command> {
     match random.weighted(&[2, 6, 3, 2, 1]) {
@@ -111,9 +111,19 @@ fn cells(random: &mut Random) -> Vec<Command> {
     case.push(Command::Check);
     case.push(Command::Translate(random.pick(&[0, circuit.code_length()])));
     let ticks = random.below(3);
+    let lent = (circuit.counts.cells as usize).min(17000);
     case.extend(call(random, &circuit, ticks));
-    // 11 comes before 14 and 12.
+    // 11 comes before 14 and 12, and before 15.
     case.push(Command::Walk(random.pick(&[-1, 2, 4097]) as u32, 5, 0));
+    case.push(Command::Inputs(vec![]));
+    case.push(Command::Probes(vec![0; random.pick(&[0, 1, 2, 33, 34])]));
+    case.push(Command::Probed(Lent {
+        ticks: random.pick(&[0, 0, -1]) as u32,
+        cells: random.pick(&[lent, lent, 5]),
+        out: 0,
+        latest: 0,
+        recording: 0,
+    }));
     case
 }
 

@@ -3,6 +3,7 @@
 
 use crate::arity::{check, Checked};
 use crate::graph::{Graph, Id, Memory, Signal, Time};
+use crate::probes::Wire;
 use crate::samples::{amount, operate};
 
 pub struct Meaning {
@@ -80,6 +81,20 @@ impl Meaning {
     /// A body's clock at the own ticks of its ondemand.
     pub fn clock(&mut self, body: Time) -> &[i32] {
         self.values(self.graph.demands[body].clock)
+    }
+
+    /// How many own ticks a wire has in the history: in a body, the demands that reached it.
+    pub fn reached(&mut self, wire: Wire) -> usize {
+        let id = self.graph.wires[wire.node][wire.output];
+        self.own_ticks(self.graph.signals[id].1)
+    }
+
+    /// E5: "A wire inside an on-demand body shows its value at the latest demand that reached it,
+    /// and 0 before that."
+    pub fn shows(&mut self, wire: Wire) -> u32 {
+        let id = self.graph.wires[wire.node][wire.output];
+        let latest = self.reached(wire) as i64 - 1;
+        self.value(id, latest) as u32
     }
 
     /// "Every signal is 0 before tick 0, constants and controls too."

@@ -1,6 +1,6 @@
 //! The text of a script, read back.
 
-use crate::script::Command;
+use crate::script::{Command, Lent};
 
 /// Numbers, each with one space before it; `v*k` stands for k times the number v.
 fn numbers(text: &str) -> Vec<u32> {
@@ -32,6 +32,15 @@ fn command(name: &str, rest: &str) -> Command {
         "load" => Command::Load(all[0], size(1)),
         "walk" => Command::Walk(all[0], size(1), size(2)),
         "run" => Command::Run(all[0], size(1), size(2)),
+        "probes" => Command::Probes(all),
+        "latest" => Command::Latest(all),
+        "probed" => Command::Probed(Lent {
+            ticks: all[0],
+            cells: size(1),
+            out: size(2),
+            latest: size(3),
+            recording: size(4),
+        }),
         "cells" => Command::Cells(size(0)),
         _ => panic!("no command {name}"),
     }

@@ -3,15 +3,17 @@
 
 use crate::arity;
 use crate::column;
-use crate::engine::{Counts, Engine, Refusal};
-use crate::entries::{Block, Past};
+use crate::engine::{Block, Counts, Engine, Probes, Refusal};
+use crate::entries::Past;
 use crate::flat::{HEADER, MOST_CODE, WIDTH};
 use crate::programs::played;
-use crate::script::{list, Command};
+use crate::script::{list, Command, Lent};
 use crate::translate;
 
 /// "There are two memories of 17,000 cells each, one for walks and one for runs."
 const MEMORY: usize = 17000;
+/// "the list has 40 numbers, all 0 at the beginning"
+const LATEST: usize = 40;
 
 type Answer = Result<u32, Refusal>;
 
@@ -24,6 +26,14 @@ pub trait Actor {
     /// A load on the walks' memory (0) or the runs' (1).
     fn load(&mut self, memory: usize, named: u32, cells: &mut [u32]) -> Answer;
     fn walk(&mut self, table: &[u32], block: &Block, cells: &mut [u32], out: &mut [u32]) -> Answer;
+    fn walk_probed(
+        &mut self,
+        table: &[u32],
+        block: &Block,
+        cells: &mut [u32],
+        out: &mut [u32],
+        probes: &mut Probes,
+    ) -> Answer;
     fn run(&mut self, code: &[u32], block: &Block, cells: &mut [u32], out: &mut [u32]) -> Answer;
     /// Both memories were set by the script.
     fn forget(&mut self) {}
@@ -51,6 +61,16 @@ impl<E: Engine> Actor for Live<'_, E> {
     fn walk(&mut self, table: &[u32], block: &Block, cells: &mut [u32], out: &mut [u32]) -> Answer {
         let (ticks, inputs, controls) = (block.ticks, block.inputs, block.controls);
         self.0.walk(table, ticks, inputs, controls, cells, out)
+    }
+    fn walk_probed(
+        &mut self,
+        table: &[u32],
+        block: &Block,
+        cells: &mut [u32],
+        out: &mut [u32],
+        probes: &mut Probes,
+    ) -> Answer {
+        self.0.walk_probed(table, block, cells, out, probes)
     }
     fn run(&mut self, code: &[u32], block: &Block, cells: &mut [u32], out: &mut [u32]) -> Answer {
         let (ticks, inputs, controls) = (block.ticks, block.inputs, block.controls);
@@ -87,6 +107,16 @@ impl Actor for Oracle {
     fn walk(&mut self, table: &[u32], block: &Block, cells: &mut [u32], out: &mut [u32]) -> Answer {
         self.pasts[0].walk(table, block, cells, out)
     }
+    fn walk_probed(
+        &mut self,
+        table: &[u32],
+        block: &Block,
+        cells: &mut [u32],
+        out: &mut [u32],
+        probes: &mut Probes,
+    ) -> Answer {
+        self.pasts[0].walk_probed(table, block, cells, out, probes)
+    }
     fn run(&mut self, code: &[u32], block: &Block, cells: &mut [u32], out: &mut [u32]) -> Answer {
         let known = self.translated.iter().find(|(_, of)| of == code);
         let table = known.map(|(table, _)| table.as_slice());
@@ -105,6 +135,8 @@ struct Scene {
     controls: Vec<u32>,
     file: Vec<u8>,
     memories: [Vec<u32>; 2],
+    probes: Vec<u32>,
+    latest: Vec<u32>,
 }
 
 /// Performs the commands and gives what they print.
@@ -116,6 +148,8 @@ pub fn perform(commands: &[Command], actor: &mut impl Actor) -> String {
         controls: vec![],
         file: vec![],
         memories: [vec![0; MEMORY], vec![0; MEMORY]],
+        probes: vec![],
+        latest: vec![0; LATEST],
     };
     let mut printed = String::new();
     for command in commands {
@@ -146,6 +180,8 @@ impl Scene {
             Command::Inputs(numbers) => self.inputs.clone_from(numbers),
             Command::Controls(numbers) => self.controls.clone_from(numbers),
             Command::File(bytes) => self.file.clone_from(bytes),
+            Command::Probes(numbers) => self.probes.clone_from(numbers),
+            Command::Latest(numbers) => self.latest[..numbers.len()].copy_from_slice(numbers),
             Command::Memory(value) => {
                 self.memories.iter_mut().for_each(|m| m.fill(*value));
                 actor.forget();
@@ -183,6 +219,7 @@ impl Scene {
                 let ran = actor.run(&self.code, &block, lent, &mut out);
                 format!("run {} |{}\n", answer(&ran), list(&out))
             }
+            Command::Probed(ref lent) => self.probed(lent, actor),
             Command::Cells(count) => {
                 let [walked, ran] = [0, 1].map(|i| list(&self.memories[i][..count]));
                 format!("walked{walked}\nran{ran}\n")
@@ -228,6 +265,22 @@ impl Scene {
             self.code = buffer[..numbers as usize].to_vec();
         }
         format!("translate {} |{}\n", answer(&translated), list(&buffer))
+    }
+
+    fn probed(&mut self, lent: &Lent, actor: &mut impl Actor) -> String {
+        let (mut out, mut recording) = (vec![9; lent.out], vec![9; lent.recording]);
+        let latest = &mut self.latest[..lent.latest];
+        let mut probes = Probes {
+            named: &self.probes,
+            latest: &mut *latest,
+            recording: &mut recording,
+        };
+        let block = block(lent.ticks, &self.inputs, &self.controls);
+        let cells = &mut self.memories[0][..lent.cells];
+        let walked = actor.walk_probed(&self.table, &block, cells, &mut out, &mut probes);
+        let (out, latest, recorded) = (list(&out), list(latest), list(&recording));
+        let walked = answer(&walked);
+        format!("probed {walked} |{out}\nlatest{latest}\nrecorded{recorded}\n")
     }
 
     /// "prints the code, each number in 12 columns: the header on a line, each instruction on

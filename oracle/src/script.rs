@@ -26,7 +26,22 @@ pub enum Command {
     /// Ticks, lent cells, length of the output buffer.
     Walk(u32, usize, usize),
     Run(u32, usize, usize),
+    /// The node and the output of each probe.
+    Probes(Vec<u32>),
+    /// The first numbers of the list of latest values.
+    Latest(Vec<u32>),
+    Probed(Lent),
     Cells(usize),
+}
+
+/// What a walk with probes is lent: ticks, and the lengths of cells, outputs, list and recording.
+#[derive(Clone, Copy, Debug, PartialEq, Eq)]
+pub struct Lent {
+    pub ticks: u32,
+    pub cells: usize,
+    pub out: usize,
+    pub latest: usize,
+    pub recording: usize,
 }
 
 /// What the script must print, by the oracle.
@@ -85,6 +100,13 @@ fn render_one(command: &Command) -> Vec<u8> {
         Command::Load(named, lent) => format!("load {} {lent}\n", *named as i32),
         Command::Walk(ticks, cells, out) => format!("walk {} {cells} {out}\n", *ticks as i32),
         Command::Run(ticks, cells, out) => format!("run {} {cells} {out}\n", *ticks as i32),
+        Command::Probes(numbers) => format!("probes{}\n", list(numbers)),
+        Command::Latest(numbers) => format!("latest{}\n", list(numbers)),
+        Command::Probed(lent) => {
+            let sizes = [lent.cells, lent.out, lent.latest, lent.recording];
+            let sizes = sizes.map(|size| format!(" {size}")).concat();
+            format!("probed {}{sizes}\n", lent.ticks as i32)
+        }
         Command::Cells(count) => format!("cells {count}\n"),
     };
     let mut text = line.into_bytes();

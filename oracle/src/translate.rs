@@ -4,22 +4,41 @@ use crate::arity::{check, first_cells, Checked, Node};
 use crate::engine::Refusal;
 use crate::flat::{Instruction, INPUTS, MOST_CELLS, MOST_INSTRUCTIONS, WIDTH};
 
-type Register = u32;
+pub type Register = u32;
 
 struct Translator<'a> {
     table: &'a [u32],
     checked: &'a Checked,
     cells: Vec<usize>,
     instructions: Vec<Instruction>,
+    /// The skip of the body that is being translated.
+    skip: Option<usize>,
+    places: Vec<Place>,
+}
+
+/// Where a node stands in the code.
+#[derive(Clone, Default)]
+pub struct Place {
+    /// The registers of its outputs.
+    pub outputs: Vec<Register>,
+    /// The skip of the innermost body that it is in.
+    pub skip: Option<usize>,
 }
 
 /// Header, instructions, output registers; without any limit on their count.
 pub fn code(table: &[u32], checked: &Checked) -> Vec<u32> {
+    placed(table, checked).0
+}
+
+/// The code, and the places of the nodes in it.
+pub fn placed(table: &[u32], checked: &Checked) -> (Vec<u32>, Vec<Place>) {
     let mut translator = Translator {
         table,
         checked,
         cells: first_cells(table, &checked.arities),
         instructions: Vec::new(),
+        skip: None,
+        places: vec![Place::default(); checked.arities.len()],
     };
     let counts = checked.counts;
     let inputs = (0..counts.inputs).collect();
@@ -29,7 +48,7 @@ pub fn code(table: &[u32], checked: &Checked) -> Vec<u32> {
     let mut code = vec![counts.inputs, counts.outputs, placed, counts.cells];
     code.extend(translator.instructions.iter().flatten());
     code.extend(outputs);
-    code
+    (code, translator.places)
 }
 
 /// "Translator: table, 10, 11, 12."
@@ -70,7 +89,8 @@ impl Translator<'_> {
         let node = Node::at(self.table, number);
         let cell = self.cells[number] as u32;
         let first = node.first;
-        match node.kind {
+        self.places[number].skip = self.skip;
+        let outputs = match node.kind {
             1 => vec![self.place([1, first, 0, 0, 0, 0])],
             2 => vec![self.place([2, first, 0, 0, 0, 0])],
             3 => vec![self.operation(first, &ins)],
@@ -80,7 +100,9 @@ impl Translator<'_> {
             11 => self.recursion(&node, cell, ins),
             12 => self.ondemand(&node, cell, ins),
             _ => self.composition(&node, ins),
-        }
+        };
+        self.places[number].outputs.clone_from(&outputs);
+        outputs
     }
 
     /// "Translation goes left before right"; "a merge places its additions, output by output
@@ -131,7 +153,9 @@ impl Translator<'_> {
     fn ondemand(&mut self, node: &Node, cell: u32, ins: Vec<Register>) -> Vec<Register> {
         let skip = self.instructions.len();
         self.place([7, ins[0], 0, 0, 0, 0]);
+        let outer = self.skip.replace(skip);
         let outs = self.node(node.first as usize, ins[1..].to_vec());
+        self.skip = outer;
         for (j, &register) in outs.iter().enumerate() {
             self.place([6, cell + j as u32, register, 0, 0, 0]);
         }

@@ -1,71 +1,16 @@
 //! The meaning against the flat code: two ways to the same samples and cells.
 
+mod flat;
+
+use flat::Flat;
 use oracle::arity::check;
-use oracle::column;
-use oracle::engine::{Counts, Engine, Refusal};
-use oracle::entries::{Block, Past};
 use oracle::flat::interpret;
 use oracle::generate::generate;
 use oracle::good_cases::{circuit, controls, inputs, usual_size};
 use oracle::meaning::Meaning;
 use oracle::random::Random;
 use oracle::script::{expected, play};
-use oracle::translate::{code, translate};
-
-/// An engine without any history: every tick by the flat code.
-struct Flat;
-
-type Answer = Result<u32, Refusal>;
-
-impl Engine for Flat {
-    fn check(&self, table: &[u32]) -> Result<Counts, Refusal> {
-        check(table).map(|checked| checked.counts)
-    }
-    fn read(&self, file: &[u8], table: &mut [u32]) -> Answer {
-        column::read(file, table)
-    }
-    fn write(&self, table: &[u32], file: &mut [u8]) -> Answer {
-        column::write(table, file)
-    }
-    fn translate(&self, table: &[u32], code: &mut [u32]) -> Answer {
-        translate(table, code)
-    }
-    fn load(&self, named: u32, cells: &mut [u32]) -> Answer {
-        Past::default().load(named, cells)
-    }
-    fn walk(
-        &self,
-        table: &[u32],
-        ticks: u32,
-        inputs: &[u32],
-        controls: &[u32],
-        cells: &mut [u32],
-        outputs: &mut [u32],
-    ) -> Answer {
-        let block = Block {
-            ticks,
-            inputs,
-            controls,
-        };
-        Past::default().walk(table, &block, cells, outputs)
-    }
-    fn run(
-        &self,
-        code: &[u32],
-        ticks: u32,
-        inputs: &[u32],
-        controls: &[u32],
-        cells: &mut [u32],
-        outputs: &mut [u32],
-    ) -> Answer {
-        let block = Block {
-            ticks,
-            inputs,
-            controls,
-        };
-        Past::default().run(code, None, &block, cells, outputs)
-    }
-}
+use oracle::translate::code;
 
 #[test]
 fn scripts() {

@@ -14,7 +14,7 @@ use std::iter::successors;
 #[test]
 fn refusals() {
     let printed = expected(&generate(1, 3000));
-    for number in 1..=14 {
+    for number in 1..=15 {
         let answer = format!("refused {number} ");
         let times = printed.matches(&answer).count();
         println!("refusal {number}: {times}");
@@ -301,6 +301,12 @@ fn maxima() {
             Command::Load(_, lent) | Command::Cells(lent) => lent <= 17000,
             Command::Walk(_, lent, out) | Command::Run(_, lent, out) => {
                 lent <= 17000 && out <= 131200
+            }
+            Command::Probes(numbers) => numbers.len() <= 64,
+            Command::Latest(numbers) => numbers.len() <= 40,
+            Command::Probed(lent) => {
+                let walk = lent.cells <= 17000 && lent.out <= 131200;
+                walk && lent.latest <= 40 && lent.recording <= 65600
             }
             _ => true,
         };

@@ -2,9 +2,10 @@
 
 use oracle::arity::check;
 use oracle::column;
-use oracle::engine::{Counts, Engine, Refusal};
-use oracle::entries::{Block, Past};
+use oracle::engine::{Block, Counts, Engine, Probes, Refusal};
+use oracle::entries::Past;
 use oracle::flat::{instruction, interpret_by, length, Instruction, Operate, HEADER, WIDTH};
+use oracle::probes::{walk_by, wires, Recorder};
 use oracle::samples::{operate, BEYOND, SELECTOR};
 use oracle::translate::{code, translate};
 
@@ -243,6 +244,29 @@ impl Engine for Wrong {
         let code = code(&table, &check(&table).expect("an accepted table"));
         let ticks = ticks as usize;
         interpret_by(self.operate, &code, inputs, controls, cells, outputs, ticks);
+        Ok(answer)
+    }
+    fn walk_probed(
+        &self,
+        table: &[u32],
+        block: &Block,
+        cells: &mut [u32],
+        outputs: &mut [u32],
+        probes: &mut Probes,
+    ) -> Answer {
+        let table = self.table(table);
+        // As with a walk: the right answer first, on buffers of its own.
+        let (mut own, mut out) = (cells.to_vec(), outputs.to_vec());
+        let (mut latest, mut recording) = (probes.latest.to_vec(), probes.recording.to_vec());
+        let mut right = Probes {
+            named: probes.named,
+            latest: &mut latest,
+            recording: &mut recording,
+        };
+        let answer = Past::default().walk_probed(&table, block, &mut own, &mut out, &mut right)?;
+        let wires = wires(probes.named, &check(&table).expect("an accepted table"))?;
+        let mut recorder = Recorder::new(wires, block.ticks, probes)?;
+        walk_by(self.operate, &table, block, cells, outputs, &mut recorder);
         Ok(answer)
     }
     fn run(

@@ -1,0 +1,72 @@
+//! The flat code as an engine.
+
+use oracle::arity::check;
+use oracle::column;
+use oracle::engine::{Block, Counts, Engine, Probes, Refusal};
+use oracle::entries::Past;
+use oracle::translate::translate;
+
+/// An engine without any history: every tick by the flat code.
+pub struct Flat;
+
+type Answer = Result<u32, Refusal>;
+
+impl Engine for Flat {
+    fn check(&self, table: &[u32]) -> Result<Counts, Refusal> {
+        check(table).map(|checked| checked.counts)
+    }
+    fn read(&self, file: &[u8], table: &mut [u32]) -> Answer {
+        column::read(file, table)
+    }
+    fn write(&self, table: &[u32], file: &mut [u8]) -> Answer {
+        column::write(table, file)
+    }
+    fn translate(&self, table: &[u32], code: &mut [u32]) -> Answer {
+        translate(table, code)
+    }
+    fn load(&self, named: u32, cells: &mut [u32]) -> Answer {
+        Past::default().load(named, cells)
+    }
+    fn walk(
+        &self,
+        table: &[u32],
+        ticks: u32,
+        inputs: &[u32],
+        controls: &[u32],
+        cells: &mut [u32],
+        outputs: &mut [u32],
+    ) -> Answer {
+        let block = Block {
+            ticks,
+            inputs,
+            controls,
+        };
+        Past::default().walk(table, &block, cells, outputs)
+    }
+    fn walk_probed(
+        &self,
+        table: &[u32],
+        block: &Block,
+        cells: &mut [u32],
+        outputs: &mut [u32],
+        probes: &mut Probes,
+    ) -> Answer {
+        Past::default().walk_probed(table, block, cells, outputs, probes)
+    }
+    fn run(
+        &self,
+        code: &[u32],
+        ticks: u32,
+        inputs: &[u32],
+        controls: &[u32],
+        cells: &mut [u32],
+        outputs: &mut [u32],
+    ) -> Answer {
+        let block = Block {
+            ticks,
+            inputs,
+            controls,
+        };
+        Past::default().run(code, None, &block, cells, outputs)
+    }
+}
