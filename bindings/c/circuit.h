@@ -3,14 +3,14 @@
  * Link with target/staticlib/libcircuit.a (x86-64 Linux), which `rt staticlib circuit` writes. What each function
  * does is proved, for all numbers in the buffers: the contracts are in crates/circuit/src/lib.rt.
  *
- * Numbers. The numbers of tables, codes, cells, inputs, controls and outputs are int32_t, since a sample is a 32-bit
- * two's complement whole number and a child or a value in a table may be negative. The engine works on the same 32
- * bits as words; C lets an object be reached as its signed or its unsigned type, and both are passed alike. Ticks and
- * counts are uint32_t: a negative one is a large one, and refused as such.
+ * Numbers. The numbers of tables, codes, probes, cells, inputs, controls, outputs and recordings are int32_t, since a
+ * sample is a 32-bit two's complement whole number and a child or a value in a table may be negative. The engine works on
+ * the same 32 bits as words; C lets an object be reached as its signed or its unsigned type, and both are passed alike.
+ * Ticks and counts are uint32_t: a negative one is a large one, and refused as such.
  *
  * Buffers. A buffer is a pointer and its length in elements, a size_t. Of an empty buffer only the length is looked
- * at: its pointer may be NULL. A buffer that is written must not overlap another buffer of the same call. A buffer
- * longer than needed keeps its content past the needed part.
+ * at: its pointer may be NULL. The buffers that are written are those without const; none of them may overlap another
+ * buffer of the same call. One that is longer than needed keeps its content past the needed part.
  *
  * Answers. Every function answers one uint64_t. The upper 32 bits are the refusal's number, 0 if there is none. The
  * lower 32 bits are the count that the call calls for, or the refusal's place as a 32-bit two's complement number:
@@ -50,18 +50,22 @@ extern "C" {
 #define CIRCUIT_TICKS 4096  /* of one call */
 #define CIRCUIT_CONTROLS 16 /* exactly so many */
 #define CIRCUIT_COUNTS 4    /* that the check reports */
+#define CIRCUIT_PROBES 16   /* of one call */
+#define CIRCUIT_PROBE_NUMBERS (2 * CIRCUIT_PROBES)                 /* a node and an output for each */
+#define CIRCUIT_RECORDING_NUMBERS (CIRCUIT_TICKS * CIRCUIT_PROBES) /* of one call */
 
 /* Bytes of stack for a thread that does nothing but such a call, on x86-64: what the call itself uses at most, which
  * stands behind the number, and 12 KiB, rounded up to pages of 4 KiB. Of the 12 KiB the start of a thread takes 4.4 with
  * the GNU C library, and its dynamic linker, which looks memset up at the first call, 3.1; the rest is spare. A caller's
  * own frames and signal handlers come on top.
  *
- * Translator and walker have a frame of 1.0 and 1.1 KiB for each node on the way from the circuit down, whatever the
+ * Translator and walker have a frame of 1.0 and 1.4 KiB for each node on the way from the circuit down, whatever the
  * node is. A way has at most 497 of the 512 nodes: an ondemand adds an input, of which there are at most 32, so that 15
  * nodes on it must have a second child. The stack of the others does not depend on what they are given.
- * bindings/c/stack_test.c measures all of them, on the deepest circuit, and calls each with just this stack. */
+ * circuit_walk_probed has the walker's stack. bindings/c/stack_test.c measures all of them, on the deepest circuit, and
+ * calls each with just this stack. */
 #define CIRCUIT_STACK_TRANSLATE (504 * 1024) /* 491 KiB */
-#define CIRCUIT_STACK_WALK (568 * 1024)      /* 553 KiB */
+#define CIRCUIT_STACK_WALK (728 * 1024)      /* 713 KiB */
 #define CIRCUIT_STACK_RUN (32 * 1024)        /* 17 KiB */
 #define CIRCUIT_STACK_CHECK (24 * 1024)      /* 11 KiB */
 #define CIRCUIT_STACK_READ (16 * 1024)       /* below 1 KiB */
@@ -83,7 +87,8 @@ enum {
     CIRCUIT_TOO_MANY_CELLS = 11,        /* cells that are not 0 to 16,384 */
     CIRCUIT_SHORT_BUFFER = 12,          /* the buffer to be filled or changed is shorter than needed */
     CIRCUIT_WRONG_CODE = 13,            /* numbers that are no flat code */
-    CIRCUIT_WRONG_BLOCK = 14            /* ticks not 0 to 4,096, inputs that are not ticks times the circuit's, or controls that are not 16 */
+    CIRCUIT_WRONG_BLOCK = 14,           /* ticks not 0 to 4,096, inputs that are not ticks times the circuit's, or controls that are not 16 */
+    CIRCUIT_WRONG_PROBES = 15           /* an odd count of probe numbers, more than 16 probes, or one that names no output of the table */
 };
 
 /* The refusal's number, 0 for an accepted call. */
@@ -132,6 +137,19 @@ uint64_t circuit_load(uint32_t named, int32_t *cells, size_t cells_length);
 uint64_t circuit_walk(const int32_t *table, size_t table_numbers, uint32_t ticks, const int32_t *inputs,
                       size_t inputs_length, const int32_t *controls, size_t controls_length, int32_t *cells,
                       size_t cells_length, int32_t *outputs, size_t outputs_length);
+
+/* Walks a table as circuit_walk does, with the same samples, cells and answer, and records up to CIRCUIT_PROBES wires.
+ * `probes` has two numbers for each, a node and an output of it, counted from 0; a wire may be named twice, and no probe
+ * is allowed too. `latest`, at least a number a probe, holds what each wire shows: its value at the tick or, in the body
+ * of an ondemand, at the latest demand that reached it. `recording`, at least ticks x probes long, takes the list as it is
+ * after each tick, in the order of the probes. Set the list to 0 with each load, and let it go on from call to call with
+ * the same table and probes: a wire that no demand has reached shows what stood there.
+ * Refusals: the table's; 11; 14; 15; 12. */
+uint64_t circuit_walk_probed(const int32_t *table, size_t table_numbers, const int32_t *probes, size_t probe_numbers,
+                             uint32_t ticks, const int32_t *inputs, size_t inputs_length, const int32_t *controls,
+                             size_t controls_length, int32_t *cells, size_t cells_length, int32_t *outputs,
+                             size_t outputs_length, int32_t *latest, size_t latest_length, int32_t *recording,
+                             size_t recording_length);
 
 /* Runs a flat code for a block of ticks: as circuit_walk, with n, m and the count of cells of the code's header.
  * Any numbers may be given as code.

@@ -1,5 +1,5 @@
 /* What the header says of buffers and answers: empty ones, lengths of 64 bits, refusals that write nothing. And a
- * selector, in a table and in codes. */
+ * selector, in a table and in codes; and probes. */
 #include "circuit.h"
 
 #include <stdio.h>
@@ -36,6 +36,8 @@ static void empty_buffers(void) {
     expect("load into nothing", circuit_load(1, NULL, 0), 12, -1);
     expect("walk", circuit_walk(number, 3, 0, NULL, 0, controls, 16, NULL, 0, NULL, 0), 0, 0);
     expect("walk of nothing", circuit_walk(NULL, 0, 0, NULL, 0, NULL, 0, NULL, 0, NULL, 0), 3, 0);
+    expect("probed walk", circuit_walk_probed(number, 3, NULL, 0, 0, NULL, 0, controls, 16, NULL, 0, NULL, 0, NULL, 0, NULL, 0), 0, 0);
+    expect("probed walk of nothing", circuit_walk_probed(NULL, 0, NULL, 0, 0, NULL, 0, NULL, 0, NULL, 0, NULL, 0, NULL, 0, NULL, 0), 3, 0);
     expect("run", circuit_run(nothing, 4, 0, NULL, 0, controls, 16, NULL, 0, NULL, 0), 0, 0);
     expect("run of nothing", circuit_run(NULL, 0, 0, NULL, 0, NULL, 0, NULL, 0, NULL, 0), 13, -1);
 }
@@ -123,11 +125,86 @@ static void selector(void) {
     }
 }
 
+/* Two ticks of an integrator on demand, the second with demand: nodes addition, cable, recursion, ondemand. */
+struct probed {
+    int32_t cells[3], outputs[3], latest[5], recording[9];
+    size_t cells_length, outputs_length, latest_length, recording_length;
+    uint32_t ticks;
+};
+
+static const struct probed before = {{0, 0, 9}, {9, 9, 9}, {7, 0, 8, 0, 9}, {9, 9, 9, 9, 9, 9, 9, 9, 9}, 3, 3, 5, 9, 2};
+
+static uint64_t walk_probed(struct probed *p, const int32_t *probes, size_t numbers) {
+    static const int32_t table[] = {3, 1, 0, 5, 0, 0, 11, 0, 1, 12, 2, 0};
+    static const int32_t controls[CIRCUIT_CONTROLS], inputs[] = {0, 5, 1, 6};
+    return circuit_walk_probed(table, 12, probes, numbers, p->ticks, inputs, 4, controls, CIRCUIT_CONTROLS, p->cells,
+                               p->cells_length, p->outputs, p->outputs_length, p->latest, p->latest_length, p->recording,
+                               p->recording_length);
+}
+
+static void same_numbers(const char *what, const int32_t *got, const int32_t *expected, size_t count) {
+    for (size_t i = 0; i < count; i++)
+        same(what, got[i], expected[i]);
+}
+
+/* The addition twice, the ondemand, the cable: what stands in the list until the demand, and past the needed parts. */
+static void probes(void) {
+    static const int32_t named[] = {0, 0, 3, 0, 0, 0, 1, 0};
+    static const struct probed after = {{6, 6, 9}, {0, 6, 9}, {6, 6, 6, 0, 9}, {7, 0, 8, 0, 6, 6, 6, 0, 9}, 3, 3, 5, 9, 2};
+    struct probed walked = before;
+    expect("a probed walk", walk_probed(&walked, named, 8), 0, 2);
+    same_numbers("its cells", walked.cells, after.cells, 3);
+    same_numbers("its samples", walked.outputs, after.outputs, 3);
+    same_numbers("its list", walked.latest, after.latest, 5);
+    same_numbers("its recording", walked.recording, after.recording, 9);
+}
+
+static void untouched(const struct probed *walked) {
+    same_numbers("cells after a refusal", walked->cells, before.cells, 3);
+    same_numbers("outputs after a refusal", walked->outputs, before.outputs, 3);
+    same_numbers("list after a refusal", walked->latest, before.latest, 5);
+    same_numbers("recording after a refusal", walked->recording, before.recording, 9);
+}
+
+/* Buffers that are too short do not come before the probes. */
+static void wrong_probes(void) {
+    static const int32_t wrong[][2] = {{4, 0}, {0, 1}, {-1, 0}, {0, -1}, {INT32_MIN, 0}, {0, INT32_MIN}};
+    static const int32_t many[CIRCUIT_PROBE_NUMBERS + 2];
+    struct probed walked = before;
+    walked.cells_length = walked.outputs_length = walked.latest_length = walked.recording_length = 0;
+    for (size_t i = 0; i < sizeof wrong / sizeof *wrong; i++)
+        expect("a probe of nothing", walk_probed(&walked, wrong[i], 2), 15, -1);
+    expect("an odd count", walk_probed(&walked, many, 3), 15, -1);
+    expect("17 probes", walk_probed(&walked, many, CIRCUIT_PROBE_NUMBERS + 2), 15, -1);
+    expect("a long list of probes", walk_probed(&walked, many, ((size_t)1 << 32) + 2), 15, -1);
+    expect("16 probes, short buffers", walk_probed(&walked, many, CIRCUIT_PROBE_NUMBERS), 12, -1);
+    walked.ticks = CIRCUIT_TICKS + 1;
+    expect("a wrong block first", walk_probed(&walked, many, 3), 14, -1);
+    untouched(&walked);
+}
+
+/* Each buffer one too short. */
+static void short_for_probes(void) {
+    static const int32_t named[] = {0, 0, 3, 0, 0, 0, 1, 0};
+    struct probed walked[4] = {before, before, before, before};
+    walked[0].cells_length = 1;
+    walked[1].outputs_length = 1;
+    walked[2].latest_length = 3;
+    walked[3].recording_length = 7;
+    for (int i = 0; i < 4; i++) {
+        expect("a short buffer", walk_probed(&walked[i], named, 8), 12, -1);
+        untouched(&walked[i]);
+    }
+}
+
 int main(void) {
     empty_buffers();
     long_lengths();
     counts_and_refusals();
     codes_of_a_selector();
     selector();
+    probes();
+    wrong_probes();
+    short_for_probes();
     return failures != 0;
 }

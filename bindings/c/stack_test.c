@@ -23,6 +23,7 @@ static int32_t table[CIRCUIT_TABLE_NUMBERS], again[CIRCUIT_TABLE_NUMBERS];
 static char file[CIRCUIT_FILE_BYTES + 64];
 static int32_t code[CIRCUIT_CODE_NUMBERS], translated[CIRCUIT_CODE_NUMBERS];
 static int32_t cells[CIRCUIT_CELLS], controls[CIRCUIT_CONTROLS], inputs[CIRCUIT_WIDTH] = {1}, outputs[CIRCUIT_WIDTH];
+static int32_t probes[CIRCUIT_PROBE_NUMBERS], latest[CIRCUIT_PROBES], recording[CIRCUIT_PROBES];
 static uint32_t counts[CIRCUIT_COUNTS];
 static int32_t nodes;
 
@@ -45,6 +46,12 @@ static void deepest_circuit(void) {
         }
         last = node(12, last, 0);
     }
+}
+
+/* As many probes as there may be, over the whole depth; each node of the deepest circuit has one output. */
+static void most_probes(void) {
+    for (int i = 0; i < CIRCUIT_PROBES; i++)
+        probes[2 * i] = i * (CIRCUIT_NODES - 1) / (CIRCUIT_PROBES - 1);
 }
 
 /* The largest code: as many instructions `number 7`, 32 inputs, 32 outputs. */
@@ -86,6 +93,14 @@ static int walk(void) {
     return samples == 1 && outputs[0] == 7;
 }
 
+/* The first probe is the number at the bottom, the last the circuit. */
+static int walk_probed(void) {
+    uint64_t samples = circuit_walk_probed(table, CIRCUIT_TABLE_NUMBERS, probes, CIRCUIT_PROBE_NUMBERS, 1, inputs, 1,
+                                           controls, CIRCUIT_CONTROLS, cells, CIRCUIT_CELLS, outputs, CIRCUIT_WIDTH,
+                                           latest, CIRCUIT_PROBES, recording, CIRCUIT_PROBES);
+    return samples == 1 && outputs[0] == 7 && recording[0] == 7 && recording[CIRCUIT_PROBES - 1] == 7;
+}
+
 static int run(void) {
     uint64_t samples = circuit_run(code, CIRCUIT_CODE_NUMBERS, 1, inputs, CIRCUIT_WIDTH, controls, CIRCUIT_CONTROLS,
                                    cells, CIRCUIT_CELLS, outputs, CIRCUIT_WIDTH);
@@ -105,6 +120,7 @@ static const struct entry entries[] = {
     {"translate", translate, CIRCUIT_STACK_TRANSLATE},
     {"load", load, CIRCUIT_STACK_LOAD},
     {"walk", walk, CIRCUIT_STACK_WALK},
+    {"walk_probed", walk_probed, CIRCUIT_STACK_WALK},
     {"run", run, CIRCUIT_STACK_RUN},
 };
 
@@ -173,6 +189,7 @@ static int failed(const struct entry *entry) {
 int main(void) {
     int failures = 0;
     deepest_circuit();
+    most_probes();
     largest_code();
     for (size_t i = 0; i < sizeof entries / sizeof *entries; i++)
         failures += failed(&entries[i]);

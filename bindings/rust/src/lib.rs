@@ -50,12 +50,18 @@ pub const CELLS: usize = 16384;
 pub const TICKS: usize = 4096;
 /// Controls of a call, exactly so many.
 pub const CONTROLS: usize = 16;
+/// Most probes of one call.
+pub const PROBES: usize = 16;
+/// Most numbers of probes, a node and an output for each.
+pub const PROBE_NUMBERS: usize = 2 * PROBES;
+/// Most numbers of a recording, of one call.
+pub const RECORDING_NUMBERS: usize = TICKS * PROBES;
 
 /// Bytes of stack for a thread that does nothing but call [`translate`], on x86-64. `bindings/c/circuit.h` says what
 /// these numbers are made of; a caller's own frames come on top.
 pub const STACK_TRANSLATE: usize = 504 * 1024;
-/// The same for [`walk`].
-pub const STACK_WALK: usize = 568 * 1024;
+/// The same for [`walk`], and for [`walk_probed`].
+pub const STACK_WALK: usize = 728 * 1024;
 /// The same for [`run`].
 pub const STACK_RUN: usize = 32 * 1024;
 /// The same for [`check`].
@@ -70,7 +76,7 @@ pub const STACK_LOAD: usize = 16 * 1024;
 /// Why a call was refused, and where.
 #[derive(Clone, Copy, Debug, PartialEq, Eq, Hash)]
 pub struct Refusal {
-    /// 1 to 14, as the document numbers them.
+    /// 1 to 15, as the document numbers them.
     pub number: u32,
     /// The line or node for refusals 1 to 9, else -1.
     pub place: i32,
@@ -94,6 +100,7 @@ impl Refusal {
             12 => "the buffer to be filled or changed is shorter than needed",
             13 => "numbers that are no flat code",
             14 => "ticks not 0 to 4,096, inputs that are not ticks times the circuit's, or controls that are not 16",
+            15 => "an odd count of probe numbers, more than 16 probes, or one that names no output of the table",
             _ => "no refusal of the document",
         }
     }
@@ -202,6 +209,58 @@ pub fn walk(
         outputs,
     };
     decoded(sys::walk(table, block))
+}
+
+/// Walks a table as [`walk`] does, with the same samples, cells and answer, and records up to [`PROBES`] wires.
+///
+/// `probes` has two numbers for each, a node and an output of it, counted from 0; a wire may be named twice, and no probe
+/// is allowed too. `latest`, at least a number a probe, holds what each wire shows: its value at the tick or, in the body of
+/// an ondemand, at the latest demand that reached it. `recording`, at least ticks times probes long, takes the list as it is
+/// after each tick, in the order of the probes. Set the list to 0 with each load, and let it go on from call to call with
+/// the same table and probes: a wire that no demand has reached shows what stood there.
+///
+/// ```
+/// // the integrator on demand: the clock 0 1 0 1, the signal 5 6 7 8
+/// let table = [3, 1, 0, 5, 0, 0, 11, 0, 1, 12, 2, 0];
+/// let probes = [3, 0, 1, 0]; // the ondemand, and the cable within
+/// let inputs = [0, 5, 1, 6, 0, 7, 1, 8];
+/// let (mut cells, mut latest) = ([0; 2], [0; 2]);
+/// let (mut outputs, mut recording) = ([0; 4], [0; 8]);
+/// circuit::walk_probed(
+///     &table, &probes, 4, &inputs, &[0; circuit::CONTROLS],
+///     &mut cells, &mut outputs, &mut latest, &mut recording,
+/// )?;
+/// assert_eq!(outputs, [0, 6, 6, 14]);
+/// assert_eq!(recording, [0, 0, 6, 0, 6, 0, 14, 6]);
+/// # Ok::<(), circuit::Refusal>(())
+/// ```
+///
+/// Refusals: the table's; 11; 14; 15; 12. The table's are those of [`check`].
+#[allow(clippy::too_many_arguments)] // the entry's, in its order
+pub fn walk_probed(
+    table: &[i32],
+    probes: &[i32],
+    ticks: u32,
+    inputs: &[i32],
+    controls: &[i32],
+    cells: &mut [i32],
+    outputs: &mut [i32],
+    latest: &mut [i32],
+    recording: &mut [i32],
+) -> Result<usize, Refusal> {
+    let block = sys::Block {
+        ticks,
+        inputs,
+        controls,
+        cells,
+        outputs,
+    };
+    let probes = sys::Probes {
+        named: probes,
+        latest,
+        recording,
+    };
+    decoded(sys::walk_probed(table, block, probes))
 }
 
 /// Runs a flat code for a block of ticks, as [`walk`] does a table; any numbers may be given as code.

@@ -22,6 +22,25 @@ extern "C" {
         outputs: *mut i32,
         outputs_length: usize,
     ) -> u64;
+    fn circuit_walk_probed(
+        table: *const i32,
+        numbers: usize,
+        probes: *const i32,
+        probes_length: usize,
+        ticks: u32,
+        inputs: *const i32,
+        inputs_length: usize,
+        controls: *const i32,
+        controls_length: usize,
+        cells: *mut i32,
+        cells_length: usize,
+        outputs: *mut i32,
+        outputs_length: usize,
+        latest: *mut i32,
+        latest_length: usize,
+        recording: *mut i32,
+        recording_length: usize,
+    ) -> u64;
     fn circuit_run(
         code: *const i32,
         numbers: usize,
@@ -108,6 +127,37 @@ fn worked(work: Work, program: &[i32], block: Block) -> u64 {
 
 pub fn walk(table: &[i32], block: Block) -> u64 {
     worked(circuit_walk, table, block)
+}
+
+/// What a walk with probes lends besides.
+pub struct Probes<'a> {
+    pub named: &'a [i32],
+    pub latest: &'a mut [i32],
+    pub recording: &'a mut [i32],
+}
+
+pub fn walk_probed(table: &[i32], block: Block, probes: Probes) -> u64 {
+    unsafe {
+        circuit_walk_probed(
+            table.as_ptr(),
+            table.len(),
+            probes.named.as_ptr(),
+            probes.named.len(),
+            block.ticks,
+            block.inputs.as_ptr(),
+            block.inputs.len(),
+            block.controls.as_ptr(),
+            block.controls.len(),
+            block.cells.as_mut_ptr(),
+            block.cells.len(),
+            block.outputs.as_mut_ptr(),
+            block.outputs.len(),
+            probes.latest.as_mut_ptr(),
+            probes.latest.len(),
+            probes.recording.as_mut_ptr(),
+            probes.recording.len(),
+        )
+    }
 }
 
 pub fn run(code: &[i32], block: Block) -> u64 {

@@ -1,5 +1,7 @@
 //! Every refusal by number and place; a refused call writes nothing; empty slices.
-use circuit::{Refusal, CELLS, CODE_NUMBERS, CONTROLS, HEADER_NUMBERS, INSTRUCTION_NUMBERS};
+use circuit::{
+    Refusal, CELLS, CODE_NUMBERS, CONTROLS, HEADER_NUMBERS, INSTRUCTION_NUMBERS, PROBE_NUMBERS,
+};
 
 const INTEGRATOR: [i32; 9] = [3, 1, 0, 5, 0, 0, 11, 0, 1];
 /// The numbers of its code: three instructions, one output.
@@ -22,6 +24,23 @@ fn unread(file: &str) -> Result<usize, Refusal> {
     answer
 }
 
+/// A call of the walker with probes that is lent so many cells, outputs, latest values and numbers of a recording.
+fn probed(
+    table: &[i32],
+    probes: &[i32],
+    ticks: u32,
+    inputs: &[i32],
+    lent: [usize; 4],
+) -> Result<usize, Refusal> {
+    let mut buffers = lent.map(|length| vec![9; length]);
+    let [cells, outputs, latest, recording] = &mut buffers;
+    let answer = circuit::walk_probed(
+        table, probes, ticks, inputs, &SILENT, cells, outputs, latest, recording,
+    );
+    assert!(answer.is_ok() || buffers == lent.map(|length| vec![9; length]));
+    answer
+}
+
 /// The answer of check, translator and walker to a refused table.
 fn unchecked(nodes: &[[i32; 3]]) -> Result<usize, Refusal> {
     let table = nodes.concat();
@@ -33,6 +52,7 @@ fn unchecked(nodes: &[[i32; 3]]) -> Result<usize, Refusal> {
         answer
     );
     assert_eq!((code, cells, outputs), ([9; 99], [9; 99], [9; 99]));
+    assert_eq!(probed(&table, &[0], 4097, &[], [0; 4]), answer);
     answer
 }
 
@@ -241,6 +261,75 @@ fn old_codes() {
     );
 }
 
+/// E5: "an odd count of probe numbers, more than 16 probes or one that names no output of the table". Nodes 0 to 2: a cable
+/// and a cut side by side. No buffer is lent, which would be 12.
+#[test]
+fn wrong_probes() {
+    let table = [5, 0, 0, 6, 0, 0, 8, 0, 1];
+    let mut many = [0; PROBE_NUMBERS + 2];
+    for wrong in [
+        &[0][..],
+        &[0, 0, 2],
+        &[3, 0],
+        &[0, 0, 3, 0],
+        &[0, 1],
+        &[1, 0],
+        &[2, 1],
+        &[-1, 0],
+        &[0, -1],
+        &[i32::MIN, 0],
+        &[0, i32::MIN],
+        &[i32::MAX, i32::MAX],
+        &many[..PROBE_NUMBERS + 1],
+        &many,
+    ] {
+        let answer = probed(&table, wrong, 1, &[5, 6], [0; 4]);
+        assert_eq!(answer, refusal(15, -1), "{wrong:?}");
+    }
+    many[PROBE_NUMBERS - 1] = 1;
+    assert_eq!(
+        probed(&table, &many[..PROBE_NUMBERS], 0, &[], [0; 4]),
+        refusal(15, -1)
+    );
+    assert_eq!(
+        probed(&table, &[0, 0, 2, 0], 1, &[5, 6], [0, 1, 2, 2]),
+        Ok(1)
+    );
+}
+
+/// E5: 15 "is checked after 14 and before 12"; and after 11, which the table of five delays has.
+#[test]
+fn order_with_probes() {
+    let mut delays = vec![[4, 4095, 0]];
+    while delays.len() < 9 {
+        let last = delays.len() as i32 - 1;
+        delays.extend([[4, 4095, 0], [8, last, last + 1]]);
+    }
+    let delays = delays.concat();
+    assert_eq!(probed(&delays, &[0], 1, &[0; 9], [0; 4]), refusal(11, -1));
+    assert_eq!(probed(&INTEGRATOR, &[0], 1, &[], [0; 4]), refusal(14, -1));
+    assert_eq!(
+        probed(&INTEGRATOR, &[0], 4097, &[0; 4097], [0; 4]),
+        refusal(14, -1)
+    );
+    assert_eq!(probed(&INTEGRATOR, &[0], 1, &[7], [0; 4]), refusal(15, -1));
+}
+
+/// Two ticks and two probes need 1 cell, 2 outputs, a list of 2 and a recording of 4; without ticks 1 and 2.
+#[test]
+fn short_with_probes() {
+    let walked =
+        |ticks, inputs: &[i32], lent| probed(&INTEGRATOR, &[0, 0, 2, 0], ticks, inputs, lent);
+    assert_eq!(walked(2, &[1, 2], [1, 2, 2, 4]), Ok(2));
+    assert_eq!(walked(0, &[], [1, 0, 2, 0]), Ok(0));
+    for short in [[0, 2, 2, 4], [1, 1, 2, 4], [1, 2, 1, 4], [1, 2, 2, 3]] {
+        assert_eq!(walked(2, &[1, 2], short), refusal(12, -1), "{short:?}");
+    }
+    for short in [[0, 0, 2, 0], [1, 0, 1, 0]] {
+        assert_eq!(walked(0, &[], short), refusal(12, -1), "{short:?}");
+    }
+}
+
 #[test]
 fn short_buffers() {
     let file = line("0", "5", "0", "0");
@@ -280,6 +369,7 @@ fn empty_slices() {
         circuit::run(&[0, 0, 0, 0], 0, &[], &SILENT, &mut [], &mut []),
         Ok(0)
     );
+    assert_eq!(probed(&number, &[], 0, &[], [0; 4]), Ok(0));
     assert_eq!(
         circuit::run(&[], 0, &[], &[], &mut [], &mut []),
         refusal(13, -1)
@@ -295,4 +385,8 @@ fn printed() {
         "refusal 2 at line 1: a node number that is not the line's place"
     );
     assert_eq!(printed(13, -1), "refusal 13: numbers that are no flat code");
+    assert_eq!(
+        printed(15, -1),
+        "refusal 15: an odd count of probe numbers, more than 16 probes, or one that names no output of the table"
+    );
 }

@@ -49,9 +49,9 @@ fn upper(name: &str) -> String {
 }
 
 #[test]
-fn numbered_from_1_to_14() {
+fn numbered_from_1_to_15() {
     let numbers: Vec<u32> = rows().into_iter().map(|(number, _, _)| number).collect();
-    assert_eq!(numbers, (1..=14).collect::<Vec<_>>());
+    assert_eq!(numbers, (1..=15).collect::<Vec<_>>());
 }
 
 #[test]
@@ -130,7 +130,7 @@ fn said<'a>(text: &'a str, entry: &str) -> &'a str {
 #[test]
 fn orders_of_the_calls() {
     let package = include_str!("../src/lib.rs");
-    assert_eq!(orders().len(), 7);
+    assert_eq!(orders().len(), 8);
     for (entry, order) in orders() {
         // The exported check fills a buffer.
         let exported = match entry.as_str() {
@@ -173,6 +173,9 @@ fn limits() {
         ("CELLS", circuit::CELLS),
         ("TICKS", circuit::TICKS),
         ("CONTROLS", circuit::CONTROLS),
+        ("PROBES", circuit::PROBES),
+        ("PROBE_NUMBERS", circuit::PROBE_NUMBERS),
+        ("RECORDING_NUMBERS", circuit::RECORDING_NUMBERS),
         ("STACK_TRANSLATE", circuit::STACK_TRANSLATE),
         ("STACK_WALK", circuit::STACK_WALK),
         ("STACK_RUN", circuit::STACK_RUN),
