@@ -62,15 +62,21 @@ impl Case {
         }
     }
 
-    /// One who runs the circuit on cells that held something else before the load.
+    /// Cells that held something else before the load.
+    pub fn loaded(&self) -> Vec<u32> {
+        let mut cells = Random::new(11).words(self.counts.cells);
+        engine::load(self.counts.cells, &mut cells);
+        cells
+    }
+
+    /// One who runs the circuit.
     fn implementation<'a>(
         &self,
         name: &'static str,
         program: &'a [u32],
         run: Run,
     ) -> Implementation<'a> {
-        let mut cells = Random::new(11).words(self.counts.cells);
-        engine::load(self.counts.cells, &mut cells);
+        let cells = self.loaded();
         let outputs = vec![0; TICKS * self.counts.outputs];
         Implementation {
             name,
@@ -97,8 +103,12 @@ impl Case {
             code("Rust, copy 1", interpreter::run::<1>),
             code("Rust, copy 2", interpreter::run::<2>),
             code("Rust, copy 3", interpreter::run::<3>),
-            self.implementation("walker", &self.table, engine::walk),
+            self.walker(),
         ]
+    }
+
+    pub fn walker(&self) -> Implementation<'_> {
+        self.implementation("walker", &self.table, engine::walk)
     }
 }
 

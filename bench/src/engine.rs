@@ -10,6 +10,25 @@ unsafe extern "C" {
     fn circuit_check(table: *const u32, n: usize, counts: *mut u32, m: usize) -> u64;
     fn circuit_translate(table: *const u32, n: usize, code: *mut u32, m: usize) -> u64;
     fn circuit_load(named: u32, cells: *mut u32, n: usize) -> u64;
+    fn circuit_walk_probed(
+        table: *const u32,
+        table_len: usize,
+        probes: *const u32,
+        probes_len: usize,
+        ticks: u32,
+        inputs: *const u32,
+        inputs_len: usize,
+        controls: *const u32,
+        controls_len: usize,
+        cells: *mut u32,
+        cells_len: usize,
+        outputs: *mut u32,
+        outputs_len: usize,
+        latest: *mut u32,
+        latest_len: usize,
+        recording: *mut u32,
+        recording_len: usize,
+    ) -> u64;
 }
 
 /// Entries of the engine that work a block of ticks.
@@ -131,6 +150,69 @@ macro_rules! call {
 
 pub fn walk(table: &[u32], block: &Block, cells: &mut [u32], outputs: &mut [u32]) -> usize {
     call!(circuit_walk, table, block, cells, outputs)
+}
+
+/// What a walk with probes is lent besides.
+pub struct Probes<'a> {
+    pub named: &'a [u32],
+    pub latest: &'a mut [u32],
+    pub recording: &'a mut [u32],
+}
+
+/// The answer as it comes, for probes that may be refused.
+fn walk_probed_raw(
+    table: &[u32],
+    block: &Block,
+    cells: &mut [u32],
+    outputs: &mut [u32],
+    probes: Probes,
+) -> u64 {
+    unsafe {
+        circuit_walk_probed(
+            table.as_ptr(),
+            table.len(),
+            probes.named.as_ptr(),
+            probes.named.len(),
+            block.ticks as u32,
+            block.inputs.as_ptr(),
+            block.inputs.len(),
+            block.controls.as_ptr(),
+            block.controls.len(),
+            cells.as_mut_ptr(),
+            cells.len(),
+            outputs.as_mut_ptr(),
+            outputs.len(),
+            probes.latest.as_mut_ptr(),
+            probes.latest.len(),
+            probes.recording.as_mut_ptr(),
+            probes.recording.len(),
+        )
+    }
+}
+
+pub fn walk_probed(
+    table: &[u32],
+    block: &Block,
+    cells: &mut [u32],
+    outputs: &mut [u32],
+    probes: Probes,
+) -> usize {
+    count(walk_probed_raw(table, block, cells, outputs, probes))
+}
+
+/// Does the probe name an output of the table? Without any room a walk is refused: with 15 if not, else with 12.
+pub fn names_output(table: &[u32], probe: [u32; 2]) -> bool {
+    let block = Block {
+        ticks: 0,
+        inputs: &[],
+        controls: &[0; 16],
+    };
+    let probes = Probes {
+        named: &probe,
+        latest: &mut [],
+        recording: &mut [],
+    };
+    walk_probed_raw(table, &block, &mut [], &mut [], probes) >> 32 == 12
 }
 
 /// The copy K of the runner.

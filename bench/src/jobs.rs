@@ -2,6 +2,7 @@
 use crate::case::{Case, TICKS};
 use crate::engine;
 use crate::measure::{Call, Job, interleaved};
+use crate::probes::{self, Probed};
 use std::hint::black_box;
 use std::time::Duration;
 
@@ -50,6 +51,23 @@ pub fn long_blocks(case: &Case, lasting: Duration) -> Job<'_> {
 
 pub fn blocks(case: &Case, ticks: usize, lasting: Duration) -> Job<'_> {
     Box::new(move || per_tick(case, ticks, ticks, lasting))
+}
+
+/// Nanoseconds a tick of the walker, then with probes, of which there is none, and with the most.
+pub fn probes(case: &Case, lasting: Duration) -> Job<'_> {
+    Box::new(move || {
+        let block = &case.block(WALK);
+        let mut walker = case.walker();
+        let [mut none, mut most] = [0, probes::MOST].map(|count| Probed::new(case, count));
+        let calls: [Call; 3] = [
+            Box::new(|| _ = black_box(walker.play(block))),
+            Box::new(|| _ = black_box(none.play(block))),
+            Box::new(|| _ = black_box(most.play(block))),
+        ];
+        interleaved(lasting, calls)
+            .map(|ns| ns / WALK as f64)
+            .to_vec()
+    })
 }
 
 /// The column file of a table.

@@ -6,6 +6,7 @@ mod interpreter;
 mod jobs;
 mod machine;
 mod measure;
+mod probes;
 mod random;
 mod report;
 mod verify;

@@ -57,8 +57,9 @@ fn title() {
 }
 
 fn circuits(cases: &[Case]) {
-    let text = "Before the measurement, runner, walker and both hand-written interpreters gave the same samples and \
-                cells on each circuit, over several blocks; runner and interpreters also on 1,000 random codes.";
+    let text = "Before the measurement, runner, walker, with probes and without, and both hand-written interpreters gave \
+                the same samples and cells on each circuit, over several blocks; runner and interpreters also on 1,000 \
+                random codes.";
     let columns = "circuit | nodes | inputs | outputs | instructions | cells";
     heading("Circuits", text, columns);
     for case in cases {
@@ -100,6 +101,18 @@ fn walkers(cases: &[Case], lines: &[Vec<f64>]) {
         let per_node = walker / case.nodes() as f64;
         let numbers = [walker, per_node, runner, walker / runner];
         line(&case.name, numbers.map(digits));
+    }
+}
+
+fn probes(cases: &[Case], lines: &[Vec<f64>]) {
+    let text = "Nanoseconds per tick, in blocks of 256 ticks: the walk, the walk with probes where none is named, and \
+                with 16, each of a node's first output, evenly over the nodes that have one. Where these are fewer, some \
+                are named more than once.";
+    let columns = "circuit | walk | no probe | 16 probes | no probe / walk | 16 probes / walk";
+    heading("Walker with probes", text, columns);
+    for (case, times) in cases.iter().zip(lines) {
+        let ratios = times[1..].iter().map(|ns| ns / times[0]);
+        line(&case.name, times.iter().copied().chain(ratios).map(digits));
     }
 }
 
@@ -168,6 +181,7 @@ pub fn print(cases: &[Case], family: &[Case]) {
     for case in &two {
         jobs.extend(BLOCKS.map(|ticks| jobs::blocks(case, ticks, short)));
     }
+    jobs.extend(cases.iter().map(|case| jobs::probes(case, short)));
     jobs.extend(large.iter().map(|case| jobs::table(case, shorter)));
     jobs.extend(family.iter().map(|case| jobs::table(case, shorter)));
     let lines = passes(&jobs, PASSES);
@@ -175,11 +189,13 @@ pub fn print(cases: &[Case], family: &[Case]) {
     let (of_cases, rest) = lines.split_at(cases.len());
     let (of_family, rest) = rest.split_at(family.len());
     let (of_blocks, rest) = rest.split_at(two.len() * BLOCKS.len());
+    let (of_probes, rest) = rest.split_at(cases.len());
     let (of_large, of_family_tables) = rest.split_at(large.len());
     title();
     circuits(cases);
     runners(cases, of_cases);
     walkers(cases, of_cases);
+    probes(cases, of_probes);
     tables(&large, of_large);
     nodes(family, of_family, of_family_tables);
     for (case, lines) in two.into_iter().zip(of_blocks.chunks(BLOCKS.len())) {

@@ -2,6 +2,7 @@
 use crate::case::{Case, Implementation, Run};
 use crate::engine::{self, Block};
 use crate::interpreter;
+use crate::probes::{self, Probed};
 use crate::random::{self, Random};
 
 /// One block by everyone; the first implementation is the one that the others are held to.
@@ -16,15 +17,32 @@ fn agree(title: &str, implementations: &mut [Implementation], block: &Block) {
     }
 }
 
+/// A block with probes: samples and cells are the walker's, and the last probe, of the circuit itself, shows its output.
+fn agree_probed(case: &Case, walker: &Implementation, probed: &mut Probed, block: &Block) {
+    let (count, m) = (probed.play(block), case.counts.outputs);
+    let title = format!("{}: with probes", case.name);
+    assert_eq!(count, block.ticks * m, "{title}, count");
+    assert!(probed.outputs == walker.outputs, "{title}, samples");
+    assert!(probed.cells == walker.cells, "{title}, cells");
+    let rows = probed.recording.chunks(probes::MOST).take(block.ticks);
+    let firsts = walker.outputs.iter().step_by(m);
+    let same = rows
+        .zip(firsts)
+        .all(|(row, first)| row.last() == Some(first));
+    assert!(same, "{title}, recording");
+}
+
 /// A history in blocks of several lengths, with other controls in each.
 pub fn verify(case: &Case) {
     let mut implementations = case.implementations();
+    let mut probed = Probed::new(case, probes::MOST);
     let mut random = Random::new(13);
     let mut from = 0;
     for ticks in [1, 0, 2, 5, 64, 700, 1024] {
         let controls: Vec<u32> = (0..16).map(|_| random.below(3)).collect();
         let block = case.block_from(from, ticks, &controls);
         agree(&case.name, &mut implementations, &block);
+        agree_probed(case, &implementations[12], &mut probed, &block);
         from += ticks;
     }
 }
