@@ -13,9 +13,7 @@ ghost use Rattle.cells.specs.Cells.{part, store};
 pub fn one(x: u32) -> [u32; BEAM]
     ensures { λ r. ⌜ take 1 r ≡ x ∷ [] ⌝ }
 {
-    let mut r = [0u32; BEAM];
-    r[0] = x;
-    r
+    [x; BEAM]
 }
 
 // The entry at `at` of the first n, and 0 past those.

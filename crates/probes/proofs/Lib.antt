@@ -1,4 +1,3 @@
 pub mod Zips
-pub mod LastOn
 pub mod Marking
 pub mod Noting

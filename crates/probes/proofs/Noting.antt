@@ -1,92 +1,98 @@
--- The probes on a node, from the last to the first: what they show, and that the others show what they did.
-use Prim.Native.Nat.{ℕ, suc, _-_, _*_, _≤_, _<_}
-use mathlib.Core.Path.{_≡_, refl, sym, ap, _∙_}
+-- The probes on a node, one after another: what they show, and that the others show what they did.
+use Prim.Native.Nat.{ℕ, _+_, _*_, _≤_, _<_}
+use mathlib.Core.Path.{_≡_, refl, sym, ap, subst, _∙_}
 use mathlib.Core.Bool.{Bool, true, false}
 use mathlib.Core.List.{List}
 use native.Mathlib.Omega.{arith}
-use lib.Dec.{eqb, ltb}
+use lib.Dec.{eqb}
 use lib.ListN.{length, getD, set, length-set}
 use lib.Seq.{getD-set-same, getD-set-other, ext-getD}
-use borrow.Author.Tests.{eq-eqb, ne-eqb, eqb-true, eqb-false, ltb-true, ltb-false}
+use borrow.Author.Tests.{eq-eqb, ne-eqb, eqb-true, eqb-false}
 use Rattle.word.specs.Tick.{Beam}
 use Rattle.calls.specs.Probes.{noted, zipWith}
 use Rattle.calls.specs.Probed.{probesOf}
-use Rattle.probes.specs.Marks.{nodeOf, outputOf, lastOn}
+use Rattle.probes.specs.Marks.{nodeOf, outputOf, rowOf, countAt, probeAt, outputAt, Shows, Entry, Row, Listed, Probing, Marked, MarksOf}
 use Rattle.probes.proofs.Zips.{probe, zip-at, zip-long}
-use Rattle.probes.proofs.LastOn.{last-most, last-is-on, none-after}
 
--- node i has given ys; the probes from `at` on are done, and the one before it, if any, is on the node
-pub record Noting (xs : List ℕ) (i : ℕ) (ys : Beam) (vs₀ : List ℕ) (at : ℕ) (vs : List ℕ) : Type 0 where
+-- the row of a node that has one lies within the marks, and so does each of its entries
+module _ {k : ℕ} {marks : List ℕ} {j at : ℕ} (low : j < 512) (e : at ≡ rowOf marks j) (some : at ≡ 0 → ⊥) where
+  pub row-at : {xs : List ℕ} → Marked xs k marks → Row xs k marks j at
+  row-at {xs} m = subst (Row xs k marks j) (sym e) (m .rows j low (omega (arith, some)))
+
+  pub row-fits : MarksOf k marks → at < 1040
+  row-fits m = let r = row-at (m .marked) in omega (arith, r .begins, r .known, m .probing .few)
+
+  pub entry-shows : MarksOf k marks → (i : ℕ) → i < countAt marks at → Shows marks (at + 1 + 2 * i) k
+  entry-shows m i h =
+      let r = row-at (m .marked) in
+      let y = r .entry i h in
+      record {
+        fits = omega (arith, r .begins, r .few, m .probing .few);
+        probe = y .known;
+        output = omega (arith, y .output, m .probing .outputs (probeAt marks at i) (y .known));
+      }
+
+-- node j has given ys; the first i entries of its row, which begins at `at`, are done
+pub record Noting (xs marks : List ℕ) (j at : ℕ) (ys : Beam) (vs₀ : List ℕ) (i : ℕ) (vs : List ℕ) : Type 0 where
   pub long : length vs ≡ length vs₀
-  pub most : at ≤ length vs₀
-  pub on : (k : ℕ) → at ≡ suc k → nodeOf xs k ≡ i
-  pub before : (k : ℕ) → k < at → getD vs k 0 ≡ getD vs₀ k 0
-  pub done : (k : ℕ) → at ≤ k → k < length vs₀ → getD vs k 0 ≡ noted i ys (probe xs k) (getD vs₀ k 0)
+  pub kept : (k : ℕ) → (nodeOf xs k ≡ j → ⊥) → getD vs k 0 ≡ getD vs₀ k 0
+  pub done : (p : ℕ) → p < i → getD vs (probeAt marks at p) 0 ≡ getD ys (outputOf xs (probeAt marks at p)) 0
 
--- a probe that is not on the node shows what it did
-not-on : (xs : List ℕ) (i : ℕ) (ys : Beam) (k v : ℕ) → (nodeOf xs k ≡ i → ⊥) → v ≡ noted i ys (probe xs k) v
-not-on xs i ys k v n = rw (ne-eqb i (nodeOf xs k) (λ e. n (sym e)))
+pub noting-starts : (xs marks : List ℕ) (j at : ℕ) (ys : Beam) (vs : List ℕ) → Noting xs marks j at ys vs 0 vs
+noting-starts xs marks j at ys vs = record { long = refl; kept = λ k n. refl; done = λ p h. absurd (omega arith) }
 
-pub noting-starts : (xs : List ℕ) (i : ℕ) (ys : Beam) (vs : List ℕ) (at : ℕ) → at ≡ lastOn xs i (length vs) → Noting xs i ys vs at vs
-noting-starts xs i ys vs at e =
-    record {
-      long = refl;
-      most = omega (arith, e, last-most xs i (length vs));
-      on = λ k z. last-is-on xs i (length vs) k (sym e ∙ z);
-      before = λ k h. refl;
-      done = λ k h l. not-on xs i ys k (getD vs k 0) (none-after xs i (length vs) k (omega (arith, e)) l);
-    }
-
-module _ {xs : List ℕ} {i : ℕ} {ys : Beam} {vs₀ : List ℕ} {at : ℕ} {vs : List ℕ} (p : Noting xs i ys vs₀ at vs) (h : 0 < at) where
-  abbrev k : ℕ
-  k = at - 1
-
-  pub last-in : k < length vs₀
-  last-in = omega (arith, p .most)
-
-  pub falls : (next : ℕ) → next ≡ lastOn xs (nodeOf xs k) k → next < at
-  falls next e = omega (arith, e, last-most xs (nodeOf xs k) k)
-
-  -- the last that is left is done, and goes on with the one before it on the node
-  pub noting-next : (next : ℕ) → next ≡ lastOn xs (nodeOf xs k) k → Noting xs i ys vs₀ next (set vs k (getD ys (outputOf xs k) 0))
-  noting-next next e =
+-- entry i of the row: its probe, and its output
+module _ {xs marks : List ℕ} {j at : ℕ} {ys : Beam} {vs₀ : List ℕ} {i : ℕ} {vs : List ℕ} (e : Entry xs (length vs₀) marks j at i) where
+  pub noting-next : Noting xs marks j at ys vs₀ i vs → Noting xs marks j at ys vs₀ (i + 1) (set vs (probeAt marks at i) (getD ys (outputAt marks at i) 0))
+  noting-next p =
       record {
         long = length-set vs k v ∙ p .long;
-        most = omega (arith, least, p .most);
-        on = λ j z. last-is-on xs i k j (sym e′ ∙ z);
-        before = λ j l. getD-set-other vs k j v 0 (λ z. omega (arith, least)) ∙ p .before j (omega (arith, least));
-        done = λ j l m. go j (eqb j k) refl l m;
+        kept = λ m n. getD-set-other vs k m v 0 (λ z. n (ap (nodeOf xs) z ∙ e .on)) ∙ p .kept m n;
+        done = λ q h. go q (eqb (probeAt marks at q) k) refl h;
       }
     where
+      k : ℕ
+      k = probeAt marks at i
+
       v : ℕ
-      v = getD ys (outputOf xs k) 0
+      v = getD ys (outputAt marks at i) 0
 
-      on : nodeOf xs k ≡ i
-      on = p .on k (omega arith)
+      go : (q : ℕ) (b : Bool) → eqb (probeAt marks at q) k ≡ b → q < i + 1 → getD (set vs k v) (probeAt marks at q) 0 ≡ getD ys (outputOf xs (probeAt marks at q)) 0
+      go q true t h =
+          let z : probeAt marks at q ≡ k = eqb-true (probeAt marks at q) k t in
+          rw z (getD-set-same vs k v 0 (omega (arith, e .known, p .long)) ∙ ap (λ o. getD ys o 0) (e .output))
+      go q false t h =
+          let n : probeAt marks at q ≡ k → ⊥ = eqb-false (probeAt marks at q) k t in
+          let u : q ≡ i → ⊥ = λ z. n (ap (probeAt marks at) z) in
+          getD-set-other vs k (probeAt marks at q) v 0 n ∙ p .done q (omega (arith, u))
 
-      e′ : next ≡ lastOn xs i k
-      e′ = e ∙ ap (λ x. lastOn xs x k) on
+-- each probe on the node shows its output, and the others show what they did
+shows-all : (xs : List ℕ) (j : ℕ) (ys : Beam) (vs₀ : List ℕ) {vs : List ℕ} → length xs ≡ 2 * length vs₀ → length vs ≡ length vs₀
+    → ((k : ℕ) → (nodeOf xs k ≡ j → ⊥) → getD vs k 0 ≡ getD vs₀ k 0)
+    → ((k : ℕ) → k < length vs₀ → nodeOf xs k ≡ j → getD vs k 0 ≡ getD ys (outputOf xs k) 0)
+    → vs ≡ zipWith (noted j ys) (probesOf xs) vs₀
+shows-all xs j ys vs₀ {vs} two long kept on =
+    ext-getD 0 vs (zipWith (noted j ys) (probesOf xs) vs₀) (long ∙ sym (zip-long (noted j ys) xs vs₀ two))
+    (λ k h. let l : k < length vs₀ = omega (arith, long) in each k l (eqb (nodeOf xs k) j) refl ∙ sym (zip-at (noted j ys) xs vs₀ two k l))
+  where
+    each : (k : ℕ) → k < length vs₀ → (b : Bool) → eqb (nodeOf xs k) j ≡ b → getD vs k 0 ≡ noted j ys (probe xs k) (getD vs₀ k 0)
+    each k l true t = let z = eqb-true (nodeOf xs k) j t in rw (eq-eqb j (nodeOf xs k) (sym z)) (on k l z)
+    each k l false t = let n = eqb-false (nodeOf xs k) j t in rw (ne-eqb j (nodeOf xs k) (λ z. n (sym z))) (kept k n)
 
-      least : next ≤ k
-      least = omega (arith, e′, last-most xs i k)
+module _ {xs marks vs₀ : List ℕ} (p : Probing xs (length vs₀)) (m : Marked xs (length vs₀) marks) (j : ℕ) (ys : Beam) where
+  -- a node without a row has no probe
+  pub none-noted : rowOf marks j ≡ 0 → vs₀ ≡ zipWith (noted j ys) (probesOf xs) vs₀
+  none-noted e =
+      shows-all xs j ys vs₀ (p .two) refl (λ k n. refl)
+      (λ k l z. absurd (let r = m .listed k l .row in let y : rowOf marks (nodeOf xs k) ≡ 0 = ap (rowOf marks) z ∙ e in omega arith))
 
-      -- one that is not the last: done before, or not on the node
-      other : (j : ℕ) (b : Bool) → ltb j k ≡ b → (j ≡ k → ⊥) → next ≤ j → j < length vs₀ → getD vs j 0 ≡ noted i ys (probe xs j) (getD vs₀ j 0)
-      other j true t n l m =
-          let low : j < k = ltb-true j k t in
-          p .before j (omega arith) ∙ not-on xs i ys j (getD vs₀ j 0) (none-after xs i k j (omega (arith, e′)) low)
-      other j false t n l m = p .done j (omega (arith, ltb-false j k t, n)) m
-
-      go : (j : ℕ) (b : Bool) → eqb j k ≡ b → next ≤ j → j < length vs₀ → getD (set vs k v) j 0 ≡ noted i ys (probe xs j) (getD vs₀ j 0)
-      go j true t l m =
-          let z : j ≡ k = eqb-true j k t in
-          rw (z, eq-eqb i (nodeOf xs k) (sym on)) (getD-set-same vs k v 0 (omega (arith, p .long, last-in)))
-      go j false t l m =
-          let n : j ≡ k → ⊥ = eqb-false j k t in
-          getD-set-other vs k j v 0 n ∙ other j (ltb j k) refl n l m
-
-pub all-noted : {xs : List ℕ} {i : ℕ} {ys : Beam} {vs₀ : List ℕ} {at : ℕ} {vs : List ℕ} → Noting xs i ys vs₀ at vs → at ≤ 0 → length xs ≡ 2 * length vs₀
-    → vs ≡ zipWith (noted i ys) (probesOf xs) vs₀
-all-noted {xs} {i} {ys} {vs₀} {at} {vs} p z l =
-    ext-getD 0 vs (zipWith (noted i ys) (probesOf xs) vs₀) (p .long ∙ sym (zip-long (noted i ys) xs vs₀ l))
-    (λ k h. let b : k < length vs₀ = omega (arith, p .long) in p .done k (omega arith) b ∙ sym (zip-at (noted i ys) xs vs₀ l k b))
+  -- once its row is done, all of its probes are
+  pub all-noted : {vs : List ℕ} {i at : ℕ} → at ≡ rowOf marks j → Noting xs marks j at ys vs₀ i vs → countAt marks at ≤ i → vs ≡ zipWith (noted j ys) (probesOf xs) vs₀
+  all-noted {vs} {i} {at} e q h = shows-all xs j ys vs₀ (p .two) (q .long) (q .kept) (λ k l z. on k z (m .listed k l))
+    where
+      on : (k : ℕ) → nodeOf xs k ≡ j → Listed xs marks k → getD vs k 0 ≡ getD ys (outputOf xs k) 0
+      on k z w =
+          let a : rowOf marks (nodeOf xs k) ≡ at = ap (rowOf marks) z ∙ sym e in
+          let is : probeAt marks at (w .entry) ≡ k = ap (λ x. probeAt marks x (w .entry)) (sym a) ∙ w .is in
+          let l : w .entry < countAt marks at = subst (λ (x : ℕ). w .entry < countAt marks x) a (w .within) in
+          subst (λ (x : ℕ). getD vs x 0 ≡ getD ys (outputOf xs x) 0) is (q .done (w .entry) (omega arith))

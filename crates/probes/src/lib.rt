@@ -5,17 +5,46 @@ use word::limits::NODES;
 use word::limits::PROBES;
 ghost use mathlib.Core.Path.{_≡_};
 ghost use mathlib.Core.List.{List};
-ghost use Prim.Native.Nat.{ℕ, _/_, _<_};
-ghost use lib.ListN.{length};
-ghost use Rattle.word.specs.Limits.{mostNodes};
+ghost use Prim.Native.Nat.{ℕ, _+_, _*_, _/_, _<_};
+ghost use lib.Dec.{eqb};
+ghost use lib.ListN.{length, getD, set};
+ghost use Rattle.word.specs.Choice.{pick};
+ghost use Rattle.word.specs.Limits.{mostNodes, mostProbes};
 ghost use Rattle.calls.specs.Probes.{noted, zipWith};
 ghost use Rattle.calls.specs.Probed.{probesOf};
-ghost use Rattle.probes.specs.Marks.{Probing, Marked, MarksOf};
+ghost use Rattle.probes.specs.Marks.{rowWidth, rowOf, Enters, entered, Probing, Marked, MarksOf, Shows};
 
-// A mark for each node, then one for each probe, then its output.
-pub const MARKS: usize = NODES + 2 * PROBES;
+// A row: its count of probes, and two numbers for each, its place in the list and its output.
+const ROW: usize = 1 + 2 * PROBES;
 
-// Of each node the last probe on it, of each probe the one before it on the same node, counted from 1, and its output.
+// A mark for each node, where its row begins, and a row for each probe.
+pub const MARKS: usize = NODES + ROW * PROBES;
+
+// Where the row of a node begins: the one that it has, or else that of probe k.
+fn row_of(marks: &[u32; MARKS], node: usize, k: usize) -> usize
+    requires { ⌜ (node < mostNodes) × (k < mostProbes) ⌝ }
+    ensures { λ r. ⌜ r ≡ pick (eqb (rowOf (now (marks .entry)) node) 0) (mostNodes + rowWidth * k) (rowOf (now (marks .entry)) node) ⌝ }
+{
+    let at = index(marks[node]);
+    if at == 0 {
+        return NODES + ROW * k;
+    }
+    at
+}
+
+// Probe k and its output, one entry more in the row of a node that has n.
+fn enter(marks: &mut [u32; MARKS], node: usize, at: usize, n: usize, k: usize, output: u32)
+    requires { ⌜ Enters node at n k ⌝ }
+    ensures { λ _. ⌜ now (marks .exit) ≡ entered (now (marks .entry)) node at n k output ⌝ }
+{
+    let e = at + 1 + 2 * n;
+    marks[node] = at as u32;
+    marks[e] = k as u32;
+    marks[e + 1] = output;
+    marks[at] = (n + 1) as u32;
+}
+
+// The row of each node that has a probe: its probes in the order named.
 pub fn marked(probes: &[u32]) -> [u32; MARKS]
     requires { ⌜ Probing (now probes) (length (now probes) / 2) ⌝ }
     ensures { λ r. ⌜ Marked (now (probes .entry)) (length (now (probes .entry)) / 2) r ⌝ }
@@ -25,12 +54,20 @@ pub fn marked(probes: &[u32]) -> [u32; MARKS]
     let mut k: usize = 0;
     while k < count {
         let node = index(probes[2 * k]);
-        marks[NODES + k] = marks[node];
-        marks[NODES + PROBES + k] = probes[2 * k + 1];
+        let at = row_of(&marks, node, k);
+        let n = index(marks[at]);
+        enter(&mut marks, node, at, n, k, probes[2 * k + 1]);
         k += 1;
-        marks[node] = k as u32;
     }
     marks
+}
+
+// The probe of the entry at e shows its output.
+fn show(marks: &[u32; MARKS], e: usize, y: &[u32; BEAM], latest: &mut [u32])
+    requires { ⌜ Shows (now marks) e (length (now latest)) ⌝ }
+    ensures { λ _. ⌜ now (latest .exit) ≡ set (now (latest .entry)) (getD (now (marks .entry)) e 0) (getD (now (y .entry)) (getD (now (marks .entry)) (e + 1) 0) 0) ⌝ }
+{
+    latest[index(marks[e])] = y[index(marks[e + 1])];
 }
 
 // Each probe on a node that has been worked shows its output; the others show what they did.
@@ -40,10 +77,14 @@ pub fn note(marks: &[u32; MARKS], node: usize, y: [u32; BEAM], latest: &mut [u32
     ensures { λ _. ⌜ ((xs : List ℕ) → Probing xs (length (now (latest .entry))) → Marked xs (length (now (latest .entry))) (now (marks .entry))
         → now (latest .exit) ≡ zipWith (noted node y) (probesOf xs) (now (latest .entry))) ⌝ }
 {
-    let mut at = index(marks[node]);
-    while 0 < at {
-        let k = at - 1;
-        latest[k] = y[index(marks[NODES + PROBES + k])];
-        at = index(marks[NODES + k]);
+    let at = index(marks[node]);
+    if at == 0 {
+        return;
+    }
+    let count = index(marks[at]);
+    let mut i: usize = 0;
+    while i < count {
+        show(marks, at + 1 + 2 * i, &y, latest);
+        i += 1;
     }
 }
