@@ -9,7 +9,7 @@ ghost use Rattle.word.specs.Limits.{widest};
 ghost use Rattle.signal.specs.Signal.{copies, sumFrom, sums};
 ghost use Rattle.cells.specs.Cells.{part, store};
 
-// One signal.
+// One signal, at all places: a beam is then stored and read in the same parts, and no read waits for a store of another width.
 pub fn one(x: u32) -> [u32; BEAM]
     ensures { λ r. ⌜ take 1 r ≡ x ∷ [] ⌝ }
 {

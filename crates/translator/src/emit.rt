@@ -9,6 +9,7 @@ use crate::parts::put_middle;
 use crate::parts::put_opening;
 use crate::parts::put_skip;
 use crate::place::Progress;
+use crate::place::one_register;
 use crate::place::push_one;
 use arity::fields::first_of;
 use arity::fields::kind_of;
@@ -16,7 +17,6 @@ use arity::rows::SHAPE;
 use arity::rows::inputs_of;
 use arity::rows::row_at;
 use beam::entry;
-use beam::one;
 use walker::wiring::first_child;
 use walker::wiring::second_child;
 use word::index;
@@ -63,7 +63,7 @@ fn emit_leaf(
     }
     if kind == 5 {
         return Progress {
-            regs: one(x),
+            regs: one_register(x),
             place: place,
         };
     }

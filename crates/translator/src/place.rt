@@ -8,7 +8,6 @@ ghost use Rattle.flat.specs.Steps.{listed};
 ghost use Rattle.translator.specs.Emit.{single, reads, writes, upFrom};
 ghost use Rattle.translator.specs.Writing.{Room, Written, Puts, onCells};
 use crate::instructions::on_cell;
-use beam::one;
 use flat::format::Instruction;
 use flat::format::WIDTH;
 use flat::format::put_instruction;
@@ -24,6 +23,15 @@ pub struct Place {
 pub struct Progress {
     pub regs: [u32; BEAM],
     pub place: Place,
+}
+
+// One register. The places behind it are 0: the frame that each level of a circuit has is then a third smaller than with the register at all of them.
+pub fn one_register(register: u32) -> [u32; BEAM]
+    ensures { λ r. ⌜ take 1 r ≡ register ∷ [] ⌝ }
+{
+    let mut regs = [0u32; BEAM];
+    regs[0] = register;
+    regs
 }
 
 // One instruction.
@@ -47,7 +55,7 @@ pub fn push_one(code: &mut [u32], p: Place, x: Instruction) -> Progress
     let next = p.next;
     let q = push(code, p, x);
     Progress {
-        regs: one(next),
+        regs: one_register(next),
         place: q,
     }
 }

@@ -84,11 +84,11 @@ same-length-4 c = c .before .before .push-one4 .kept .0
 returns-4 : tie.Need-returns-4
 returns-4 c = leaf-emits (delay-leaf (c .before .before .before .before .before .before .before .before .before .before .before .before .before .before .before .before .before .before .before .before .before .pre .0) (c .before .before .before .before .before .before .before .before .before .before .before .before .before .before .before .before .before .before .before .before .before .pre .1 .0 .inside) (c .before .before .before .before .before .before .before .before .before .before .before .before .before .before .before .before .before .before .before .before .before .args .p) (ins-at (c .before .before .before .before .before .before .before .before .before .before .before .before .before .before .before .before .before .before .before .before .before .pre .0) (c .before .before .before .before .before .before .before .before .before .before .before .before .before .before .before .before .before .before .before .before .before .pre .1 .0 .inside) (c .before .before .before .before .before .before .before .before .before .before .before .before .before .before .before .before .inputs-of .ensures)) (c .before .before .before .before .before .before .before .before .before .before .before .before .entry .ensures) (sym (c .before .before .before .before .before .before .before .before .before .before .before .before .before .before .before .before .before .before .kind-of .ensures) ∙ c .before .before .before .before .before .before .if4 .taken) (c .before .before .before .before .before .before .before .before .before .before .before .before .before .before .before .before .before .first-of .ensures) (c .before .before .before .before .before .before .before .before .before .before .entry2 .ensures) (c .before .before .before .before .before .row-at .ensures)) (rw (c .before .before .before .delay .ensures) at (c .before .before .push-one4 .ensures))
 
-one-requires : tie.Need-one-requires
-one-requires c κs = search needs
+one-register-requires : tie.Need-one-register-requires
+one-register-requires c κs = search needs
 
 returns-5 : tie.Need-returns-5
-returns-5 c = cable-emits (c .before .before .before .before .before .before .before .before .before .before .before .before .before .before .before .before .before .pre .0) (c .before .before .before .before .before .before .before .before .before .before .before .before .before .before .before .before .before .pre .1 .0 .inside) (c .before .before .before .before .before .before .before .before .before .before .before .before .before .before .before .before .before .args .p) (ins-at (c .before .before .before .before .before .before .before .before .before .before .before .before .before .before .before .before .before .pre .0) (c .before .before .before .before .before .before .before .before .before .before .before .before .before .before .before .before .before .pre .1 .0 .inside) (c .before .before .before .before .before .before .before .before .before .before .before .before .inputs-of .ensures)) (c .before .before .before .before .before .before .before .before .entry .ensures) (sym (c .before .before .before .before .before .before .before .before .before .before .before .before .before .before .kind-of .ensures) ∙ c .before .if5 .taken) (c .one .ensures)
+returns-5 c = cable-emits (c .before .before .before .before .before .before .before .before .before .before .before .before .before .before .before .before .before .pre .0) (c .before .before .before .before .before .before .before .before .before .before .before .before .before .before .before .before .before .pre .1 .0 .inside) (c .before .before .before .before .before .before .before .before .before .before .before .before .before .before .before .before .before .args .p) (ins-at (c .before .before .before .before .before .before .before .before .before .before .before .before .before .before .before .before .before .pre .0) (c .before .before .before .before .before .before .before .before .before .before .before .before .before .before .before .before .before .pre .1 .0 .inside) (c .before .before .before .before .before .before .before .before .before .before .before .before .inputs-of .ensures)) (c .before .before .before .before .before .before .before .before .entry .ensures) (sym (c .before .before .before .before .before .before .before .before .before .before .before .before .before .before .kind-of .ensures) ∙ c .before .if5 .taken) (c .one-register .ensures)
 
 returns-6 : tie.Need-returns-6
 returns-6 c = let k = c .before .before .before .before .before .before .before .before .before .before .before .before .before .kind-of .ensures in
@@ -125,6 +125,6 @@ emit-leaf-spec =
     push-one-requires-4
     same-length-4
     returns-4
-    one-requires
+    one-register-requires
     returns-5
     returns-6)
