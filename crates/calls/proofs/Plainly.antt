@@ -42,11 +42,7 @@ module _ (n : ℕ) (t : Tree) (xs : List ℕ) (work : ProbedProgram) (is-work : 
       go (watched b d e f) g = absurd (let z : _≡_ {A = ℕ} 0 1 = cc in omega arith)
       go (refuses y) g = ap (λ z. untouched z cells (a .walk .outputs) latest (a .recording)) g
 
--- calls that may lie between: a refused walk of any circuit with any probes, and any refused call on the cells alone
-pub refused-probed : (n : ℕ) (t : Tree) (xs : List ℕ) (work : ProbedProgram) → IsProbedProgramOf n t xs work → (from : ℕ) (a : ProbedArguments) (cells latest : List ℕ)
-    → (x : ℕ) (p : ℤ) → work a cells latest .ran .answer ≡ refused x p → RefusedProbed (probedCallOf work from (ownWalk a)) cells latest
-refused-probed n t xs work is-work from a cells latest x p e = record { number = x; place = p; nothing = walk-refused n t xs work is-work a cells latest x p e }
-
+-- what may lie between: any refused call on the cells alone
 pub refused-plain : (c : Call) (cells latest : List ℕ) → Refused c cells → RefusedProbed (withoutProbes c) cells latest
 refused-plain c cells latest r = record { number = r .number; place = r .place; nothing = ap (λ y. probedAs y latest []) (r .nothing) }
 
