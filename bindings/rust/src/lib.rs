@@ -61,7 +61,7 @@ pub const RECORDING_NUMBERS: usize = TICKS * PROBES;
 /// these numbers are made of; a caller's own frames come on top.
 pub const STACK_TRANSLATE: usize = 504 * 1024;
 /// The same for [`walk`], and for [`walk_probed`].
-pub const STACK_WALK: usize = 700 * 1024;
+pub const STACK_WALK: usize = 692 * 1024;
 /// The same for [`run`].
 pub const STACK_RUN: usize = 32 * 1024;
 /// The same for [`check`].

@@ -1,68 +1,78 @@
 -- The marks of the probes, one probe after another.
-use Prim.Native.Nat.{ℕ, suc, _+_, _*_, _≤_, _<_}
+use Prim.Native.Nat.{ℕ, suc, _+_, _-_, _*_, _≤_, _<_}
 use mathlib.Core.Path.{_≡_, refl, sym, ap, subst, _∙_}
 use mathlib.Core.Bool.{Bool, true, false}
 use mathlib.Core.List.{List}
 use native.Mathlib.Omega.{arith}
+use native.Mathlib.Decide.{decLe}
 use lib.Dec.{eqb}
 use lib.ListN.{length, getD, set, length-set, replicate, length-replicate, getD-replicate}
 use lib.Seq.{getD-set-same, getD-set-other}
 use borrow.Author.Tests.{eqb-true, eqb-false}
 use Rattle.word.specs.Choice.{pick}
-use Rattle.probes.specs.Marks.{nodeOf, outputOf, rowOf, countAt, probeAt, outputAt, entered, Enters, Entry, Row, Listed, Probing, Marked}
+use Rattle.probes.specs.Marks.{nodeOf, outputOf, markOf, rowAt, countAt, probeAt, outputAt, Clear, entered, Enters, Entry, Row, Listed, Probing, Marked}
 
 -- the marks of the first k probes; the rows of the others are still empty
 pub record Marking (xs : List ℕ) (k : ℕ) (marks : List ℕ) : Type 0 where
   pub marked : Marked xs k marks
   pub long : length marks ≡ 1040
-  pub empty : (i : ℕ) → 512 + 33 * k ≤ i → i < 1040 → getD marks i 0 ≡ 0
+  pub empty : (i : ℕ) → rowAt k ≤ i → i < 1040 → getD marks i 0 ≡ 0
 
-pub none-marked : (xs : List ℕ) → Marking xs 0 (replicate 1040 0)
-none-marked xs =
+empty-marks : (xs : List ℕ) → Marking xs 0 (replicate 1040 0)
+empty-marks xs =
     record {
-      marked = record { rows = λ j l h. absurd (let z = getD-replicate {A = ℕ} 1040 j 0 0 (omega arith) in omega arith); listed = λ i h. absurd (omega arith) };
+      marked = record { rows = λ j f l h. absurd (let z = getD-replicate {A = ℕ} 1040 j 0 0 (omega arith) in omega arith); listed = λ i h. absurd (omega arith) };
       long = length-replicate {A = ℕ} 1040 0;
       empty = λ i l h. getD-replicate {A = ℕ} 1040 i 0 0 h;
     }
 
--- the row at `at`, of node j, has room for probe k
-pub record Room (xs : List ℕ) (k : ℕ) (marks : List ℕ) (j at : ℕ) : Type 0 where
-  pub first : ℕ
-  pub begins : at ≡ 512 + 33 * first
-  pub known : first ≤ k
-  pub on : nodeOf xs first ≡ j
-  pub few : first + countAt marks at ≤ k
-  pub entry : (i : ℕ) → i < countAt marks at → Entry xs k marks j at i
-  pub is : 0 < rowOf marks j → at ≡ rowOf marks j
+pub none-marked : (xs : List ℕ) {ms : List ℕ} → Clear ms → Marking xs 0 ms
+none-marked xs c = rw (c .is) (empty-marks xs)
 
--- the row of node j that probe k is on: the one that it has, or else that of probe k
-pub has-room : {xs : List ℕ} {c k : ℕ} {ms : List ℕ} {j at : ℕ} → Probing xs c → k < c → Marking xs k ms → j ≡ nodeOf xs k
-    → at ≡ pick (eqb (rowOf ms j) 0) (512 + 33 * k) (rowOf ms j) → Room xs k ms j at
-has-room {xs} {c} {k} {ms} {j} {at} p h m on e = go (eqb (rowOf ms j) 0) refl e
+-- a mark is a probe
+pub mark-most : {xs : List ℕ} {k : ℕ} {ms : List ℕ} → Marked xs k ms → (j : ℕ) → j < 512 → markOf ms j ≤ k
+mark-most {xs} {k} {ms} m j low = go (decLe (markOf ms j) 0)
   where
-    go : (b : Bool) → eqb (rowOf ms j) 0 ≡ b → at ≡ pick b (512 + 33 * k) (rowOf ms j) → Room xs k ms j at
+    go : Dec (markOf ms j ≤ 0) → markOf ms j ≤ k
+    go (yes z) = omega arith
+    go (no z) = omega (arith, m .rows j (markOf ms j - 1) low (omega (arith, z)) .known)
+
+-- the row of probe f, the first on node j, has room for probe k
+pub record Room (xs : List ℕ) (k : ℕ) (marks : List ℕ) (j f : ℕ) : Type 0 where
+  pub known : f ≤ k
+  pub on : nodeOf xs f ≡ j
+  pub few : f + countAt marks (rowAt f) ≤ k
+  pub entry : (i : ℕ) → i < countAt marks (rowAt f) → Entry xs k marks j (rowAt f) i
+  pub is : (g : ℕ) → markOf marks j ≡ g + 1 → g ≡ f
+
+-- the first probe on the node of probe k: the one that is marked, or else k
+pub has-room : {xs : List ℕ} {c k : ℕ} {ms : List ℕ} {j f : ℕ} → Probing xs c → k < c → Marking xs k ms → j ≡ nodeOf xs k
+    → f ≡ pick (eqb (markOf ms j) 0) k (markOf ms j - 1) → Room xs k ms j f
+has-room {xs} {c} {k} {ms} {j} {f} p h m on e = go (eqb (markOf ms j) 0) refl e
+  where
+    go : (b : Bool) → eqb (markOf ms j) 0 ≡ b → f ≡ pick b k (markOf ms j - 1) → Room xs k ms j f
     go true t a =
-        let z : countAt ms at ≡ 0 = ap (countAt ms) a ∙ m .empty (512 + 33 * k) (omega arith) (omega (arith, p .few)) in
-        record {
-          first = k;
-          begins = a;
-          known = omega arith;
-          on = sym on;
-          few = omega arith;
-          entry = λ i l. absurd (omega arith);
-          is = λ l. absurd (let y = eqb-true (rowOf ms j) 0 t in omega arith);
-        }
+        let z : countAt ms (rowAt f) ≡ 0 = m .empty (rowAt f) (omega arith) (omega (arith, p .few)) in
+        let y = eqb-true (markOf ms j) 0 t in
+        record { known = omega arith; on = ap (nodeOf xs) a ∙ sym on; few = omega arith; entry = λ i l. absurd (omega arith); is = λ g l. absurd (omega arith) }
     go false t a =
-        let n : rowOf ms j ≡ 0 → ⊥ = eqb-false (rowOf ms j) 0 t in
-        let r : Row xs k ms j at = subst (Row xs k ms j) (sym a) (m .marked .rows j (omega (arith, p .nodes k h)) (omega (arith, n))) in
-        record { first = r .first; begins = r .begins; known = omega (arith, r .known); on = r .on; few = r .few; entry = r .entry; is = λ l. a }
+        let n : markOf ms j ≡ 0 → ⊥ = eqb-false (markOf ms j) 0 t in
+        let r = m .marked .rows j f (omega (arith, p .nodes k h)) (omega (arith, n)) in
+        record { known = omega (arith, r .known); on = r .on; few = r .few; entry = r .entry; is = λ g l. omega arith }
 
-pub room-enters : {xs : List ℕ} {c k : ℕ} {ms : List ℕ} {j at : ℕ} → Probing xs c → k < c → j ≡ nodeOf xs k → Room xs k ms j at → Enters j at (countAt ms at) k
+pub room-enters : {xs : List ℕ} {c k : ℕ} {ms : List ℕ} {j f : ℕ} → Probing xs c → k < c → j ≡ nodeOf xs k → Room xs k ms j f
+    → Enters j f (countAt ms (rowAt f)) k (outputOf xs k)
 room-enters {xs} {c} {k} p h on r =
-    record { node = omega (arith, on, p .nodes k h); probe = omega (arith, p .few); fits = omega (arith, r .begins, r .few, p .few) }
+    record {
+      node = omega (arith, on, p .nodes k h);
+      first = omega (arith, r .known, p .few);
+      entry = omega (arith, r .few, p .few);
+      probe = omega (arith, p .few);
+      output = p .outputs k h;
+    }
 
--- probe k, on node j, in the row at `at`
-module _ {xs : List ℕ} {c k : ℕ} {ms : List ℕ} {j at : ℕ} (p : Probing xs c) (h₀ : k < c) (m : Marking xs k ms) (on′ : j ≡ nodeOf xs k) (room : Room xs k ms j at) where
+-- probe k, on node j, whose first probe is f
+module _ {xs : List ℕ} {c k : ℕ} {ms : List ℕ} {j f : ℕ} (p : Probing xs c) (h₀ : k < c) (m : Marking xs k ms) (on′ : j ≡ nodeOf xs k) (room : Room xs k ms j f) where
   on : nodeOf xs k ≡ j
   on = sym on′
 
@@ -75,6 +85,9 @@ module _ {xs : List ℕ} {c k : ℕ} {ms : List ℕ} {j at : ℕ} (p : Probing x
   low′ : (i : ℕ) → i < k → nodeOf xs i < 512
   low′ i l = p .nodes i (omega arith)
 
+  abbrev at : ℕ
+  at = rowAt f
+
   abbrev n : ℕ
   n = countAt ms at
 
@@ -82,7 +95,7 @@ module _ {xs : List ℕ} {c k : ℕ} {ms : List ℕ} {j at : ℕ} (p : Probing x
   o = outputOf xs k
 
   abbrev begun : List ℕ
-  begun = set ms j at
+  begun = set ms j (f + 1)
 
   abbrev named : List ℕ
   named = set begun (at + 1 + 2 * n) k
@@ -94,7 +107,7 @@ module _ {xs : List ℕ} {c k : ℕ} {ms : List ℕ} {j at : ℕ} (p : Probing x
   all = set shown at (suc n)
 
   begun-long : length begun ≡ 1040
-  begun-long = length-set ms j at ∙ m .long
+  begun-long = length-set ms j (f + 1) ∙ m .long
 
   named-long : length named ≡ 1040
   named-long = length-set begun (at + 1 + 2 * n) k ∙ begun-long
@@ -102,19 +115,19 @@ module _ {xs : List ℕ} {c k : ℕ} {ms : List ℕ} {j at : ℕ} (p : Probing x
   shown-long : length shown ≡ 1040
   shown-long = length-set named (at + 1 + 2 * n + 1) o ∙ named-long
 
-  inside : (at + 1 + 2 * n + 1 < 1040) × (512 ≤ at) × (n ≤ 15) × (j < 512)
-  inside = (omega (arith, few, room .begins, room .few), omega (arith, room .begins), omega (arith, few, room .few), low)
+  inside : (at + 1 + 2 * n + 1 < 1040) × (n ≤ 15) × (j < 512)
+  inside = (omega (arith, few, room .few), omega (arith, few, room .few), low)
 
   -- a place that is none of the four
   other : (i : ℕ) → (i ≡ j → ⊥) → (i ≡ at + 1 + 2 * n → ⊥) → (i ≡ at + 1 + 2 * n + 1 → ⊥) → (i ≡ at → ⊥) → getD all i 0 ≡ getD ms i 0
   other i a b c d =
       getD-set-other shown at i (suc n) 0 d ∙ getD-set-other named (at + 1 + 2 * n + 1) i o 0 c ∙ getD-set-other begun (at + 1 + 2 * n) i k 0 b
-      ∙ getD-set-other ms j i at 0 a
+      ∙ getD-set-other ms j i (f + 1) 0 a
 
-  mark-here : rowOf all j ≡ at
+  mark-here : markOf all j ≡ f + 1
   mark-here =
       getD-set-other shown at j (suc n) 0 (λ e. omega (arith, inside)) ∙ getD-set-other named (at + 1 + 2 * n + 1) j o 0 (λ e. omega (arith, inside))
-      ∙ getD-set-other begun (at + 1 + 2 * n) j k 0 (λ e. omega (arith, inside)) ∙ getD-set-same ms j at 0 (omega (arith, inside, m .long))
+      ∙ getD-set-other begun (at + 1 + 2 * n) j k 0 (λ e. omega (arith, inside)) ∙ getD-set-same ms j (f + 1) 0 (omega (arith, inside, m .long))
 
   count-here : countAt all at ≡ suc n
   count-here = getD-set-same shown at (suc n) 0 (omega (arith, inside, shown-long))
@@ -135,9 +148,9 @@ module _ {xs : List ℕ} {c k : ℕ} {ms : List ℕ} {j at : ℕ} (p : Probing x
   output-kept : (i : ℕ) → i < n → outputAt all at i ≡ outputAt ms at i
   output-kept i h = other (at + 1 + 2 * i + 1) (λ e. omega (arith, inside)) (λ e. omega arith) (λ e. omega arith) (λ e. omega arith)
 
-  row-here : Row xs (suc k) all j at
+  row-here : Row xs (suc k) all j f
   row-here =
-      record { first = room .first; begins = room .begins; known = omega (arith, room .known); on = room .on; few = omega (arith, count-here, room .few); entry = λ i h. go i (eqb i n) refl h }
+      record { known = omega (arith, room .known); on = room .on; few = omega (arith, count-here, room .few); entry = λ i h. go i (eqb i n) refl h }
     where
       go : (i : ℕ) (b : Bool) → eqb i n ≡ b → i < countAt all at → Entry xs (suc k) all j at i
       go i true t h =
@@ -148,91 +161,88 @@ module _ {xs : List ℕ} {c k : ℕ} {ms : List ℕ} {j at : ℕ} (p : Probing x
           let e = room .entry i l in
           record { known = omega (arith, probe-kept i l, e .known); on = rw (probe-kept i l) (e .on); output = rw (output-kept i l, probe-kept i l) (e .output) }
 
-  -- the row of another node is as it was
-  module _ (j′ : ℕ) (low′ : j′ < 512) (apart : j′ ≡ j → ⊥) where
-    mark-else : rowOf all j′ ≡ rowOf ms j′
+  -- another node's mark and its row, that of probe g, are as they were
+  module _ (j′ : ℕ) (l′ : j′ < 512) (apart : j′ ≡ j → ⊥) where
+    mark-else : markOf all j′ ≡ markOf ms j′
     mark-else = other j′ apart (λ e. omega (arith, inside)) (λ e. omega (arith, inside)) (λ e. omega (arith, inside))
 
-    module _ (r : Row xs k ms j′ (rowOf ms j′)) where
-      abbrev at′ : ℕ
-      at′ = rowOf ms j′
-
-      rows-apart : r .first ≡ room .first → ⊥
+    module _ {g : ℕ} (r : Row xs k ms j′ g) where
+      rows-apart : g ≡ f → ⊥
       rows-apart e = apart (sym (r .on) ∙ ap (nodeOf xs) e ∙ room .on)
 
-      else : (i : ℕ) → i ≤ 32 → getD all (at′ + i) 0 ≡ getD ms (at′ + i) 0
+      else : (i : ℕ) → i ≤ 32 → getD all (rowAt g + i) 0 ≡ getD ms (rowAt g + i) 0
       else i h =
-          other (at′ + i) (λ e. omega (arith, inside, r .begins)) (λ e. omega (arith, inside, r .begins, r .known, room .begins, rows-apart)) (λ e. omega (arith, inside, r .begins, r .known, room .begins, rows-apart)) (λ e. omega (arith, r .begins, room .begins, rows-apart))
+          other (rowAt g + i) (λ e. omega (arith, inside)) (λ e. omega (arith, inside, rows-apart)) (λ e. omega (arith, inside, rows-apart))
+          (λ e. omega (arith, rows-apart))
 
-      count-else : countAt all at′ ≡ countAt ms at′
-      count-else = let z : at′ + 0 ≡ at′ = omega arith in subst (λ (a : ℕ). getD all a 0 ≡ getD ms a 0) z (else 0 (omega arith))
+      count-else : countAt all (rowAt g) ≡ countAt ms (rowAt g)
+      count-else = let z : rowAt g + 0 ≡ rowAt g = omega arith in subst (λ (a : ℕ). getD all a 0 ≡ getD ms a 0) z (else 0 (omega arith))
 
-      probe-else : (i : ℕ) → i < countAt ms at′ → probeAt all at′ i ≡ probeAt ms at′ i
+      probe-else : (i : ℕ) → i < countAt ms (rowAt g) → probeAt all (rowAt g) i ≡ probeAt ms (rowAt g) i
       probe-else i h =
-          let z : at′ + (1 + 2 * i) ≡ at′ + 1 + 2 * i = omega arith in
+          let z : rowAt g + (1 + 2 * i) ≡ rowAt g + 1 + 2 * i = omega arith in
           subst (λ (a : ℕ). getD all a 0 ≡ getD ms a 0) z (else (1 + 2 * i) (omega (arith, few, r .few)))
 
-      output-else : (i : ℕ) → i < countAt ms at′ → outputAt all at′ i ≡ outputAt ms at′ i
+      output-else : (i : ℕ) → i < countAt ms (rowAt g) → outputAt all (rowAt g) i ≡ outputAt ms (rowAt g) i
       output-else i h =
-          let z : at′ + (1 + 2 * i + 1) ≡ at′ + 1 + 2 * i + 1 = omega arith in
+          let z : rowAt g + (1 + 2 * i + 1) ≡ rowAt g + 1 + 2 * i + 1 = omega arith in
           subst (λ (a : ℕ). getD all a 0 ≡ getD ms a 0) z (else (1 + 2 * i + 1) (omega (arith, few, r .few)))
 
-      row-else : Row xs (suc k) all j′ at′
+      row-else : Row xs (suc k) all j′ g
       row-else =
           record {
-            first = r .first;
-            begins = r .begins;
             known = omega (arith, r .known);
             on = r .on;
             few = omega (arith, count-else, r .few);
             entry = λ i h.
-                let l : i < countAt ms at′ = omega (arith, count-else) in
+                let l : i < countAt ms (rowAt g) = omega (arith, count-else) in
                 let e = r .entry i l in
                 record { known = omega (arith, probe-else i l, e .known); on = rw (probe-else i l) (e .on); output = rw (output-else i l, probe-else i l) (e .output) };
           }
 
-  rows-more : (j′ : ℕ) → j′ < 512 → 0 < rowOf all j′ → Row xs (suc k) all j′ (rowOf all j′)
-  rows-more j′ l h = go (eqb j′ j) refl
+  rows-more : (j′ g : ℕ) → j′ < 512 → markOf all j′ ≡ g + 1 → Row xs (suc k) all j′ g
+  rows-more j′ g l e = go (eqb j′ j) refl
     where
-      go : (b : Bool) → eqb j′ j ≡ b → Row xs (suc k) all j′ (rowOf all j′)
-      go true t = let z : j′ ≡ j = eqb-true j′ j t in rw (z, mark-here) row-here
+      go : (b : Bool) → eqb j′ j ≡ b → Row xs (suc k) all j′ g
+      go true t =
+          let z : j′ ≡ j = eqb-true j′ j t in
+          let y : g ≡ f = omega (arith, mark-here, ap (markOf all) z) in
+          rw (z, y) row-here
       go false t =
           let apart : j′ ≡ j → ⊥ = eqb-false j′ j t in
-          let same = mark-else j′ l apart in
-          rw same (row-else j′ l apart (m .marked .rows j′ l (omega (arith, same))))
+          row-else j′ l apart (m .marked .rows j′ g l (sym (mark-else j′ l apart) ∙ e))
 
   listed-more : (i : ℕ) → i < suc k → Listed xs all i
   listed-more i h = go (eqb i k) refl
     where
       -- probe i of the same node, or of another
       earlier : (l : i < k) (b : Bool) → eqb (nodeOf xs i) j ≡ b → Listed xs ms i → Listed xs all i
-      earlier l true t p =
+      earlier l true t q =
           let z : nodeOf xs i ≡ j = eqb-true (nodeOf xs i) j t in
-          let a : rowOf ms (nodeOf xs i) ≡ at = ap (rowOf ms) z ∙ sym (room .is (subst (λ (x : ℕ). 0 < rowOf ms x) z (p .row))) in
-          let b : rowOf all (nodeOf xs i) ≡ at = ap (rowOf all) z ∙ mark-here in
-          let w : p .entry < n = subst (λ (x : ℕ). p .entry < countAt ms x) a (p .within) in
+          let a : q .first ≡ f = room .is (q .first) (ap (markOf ms) (sym z) ∙ q .mark) in
+          let w : q .entry < n = subst (λ (x : ℕ). q .entry < countAt ms (rowAt x)) a (q .within) in
           record {
-            entry = p .entry;
-            row = omega (arith, b, inside);
-            within = rw b (omega (arith, count-here));
-            is = rw b (probe-kept (p .entry) w ∙ ap (λ x. probeAt ms x (p .entry)) (sym a) ∙ p .is);
+            first = f;
+            mark = ap (markOf all) z ∙ mark-here;
+            entry = q .entry;
+            within = omega (arith, count-here);
+            is = probe-kept (q .entry) w ∙ ap (λ x. probeAt ms (rowAt x) (q .entry)) (sym a) ∙ q .is;
           }
-      earlier l false t p =
+      earlier l false t q =
           let apart : nodeOf xs i ≡ j → ⊥ = eqb-false (nodeOf xs i) j t in
-          let same = mark-else (nodeOf xs i) (low′ i l) apart in
-          let r = m .marked .rows (nodeOf xs i) (low′ i l) (p .row) in
+          let r = m .marked .rows (nodeOf xs i) (q .first) (low′ i l) (q .mark) in
           record {
-            entry = p .entry;
-            row = omega (arith, same, p .row);
-            within = rw same (omega (arith, count-else (nodeOf xs i) (low′ i l) apart r, p .within));
-            is = rw same (probe-else (nodeOf xs i) (low′ i l) apart r (p .entry) (p .within) ∙ p .is);
+            first = q .first;
+            mark = mark-else (nodeOf xs i) (low′ i l) apart ∙ q .mark;
+            entry = q .entry;
+            within = omega (arith, count-else (nodeOf xs i) (low′ i l) apart r, q .within);
+            is = probe-else (nodeOf xs i) (low′ i l) apart r (q .entry) (q .within) ∙ q .is;
           }
 
       go : (b : Bool) → eqb i k ≡ b → Listed xs all i
       go true t =
           let z : i ≡ k = eqb-true i k t in
-          let b : rowOf all (nodeOf xs i) ≡ at = ap (λ x. rowOf all (nodeOf xs x)) z ∙ ap (rowOf all) on ∙ mark-here in
-          record { entry = n; row = omega (arith, b, inside); within = rw b (omega (arith, count-here)); is = rw b (probe-here ∙ sym z) }
+          record { first = f; mark = ap (λ x. markOf all (nodeOf xs x)) z ∙ ap (markOf all) on ∙ mark-here; entry = n; within = omega (arith, count-here); is = probe-here ∙ sym z }
       go false t =
           let l : i < k = omega (arith, eqb-false i k t) in
           earlier l (eqb (nodeOf xs i) j) refl (m .marked .listed i l)
@@ -243,12 +253,11 @@ module _ {xs : List ℕ} {c k : ℕ} {ms : List ℕ} {j at : ℕ} (p : Probing x
         marked = record { rows = rows-more; listed = listed-more };
         long = length-set shown at (suc n) ∙ shown-long;
         empty = λ i l h.
-            other i (λ e. omega (arith, inside)) (λ e. omega (arith, room .begins, room .known, room .few)) (λ e. omega (arith, room .begins, room .known, room .few))
-            (λ e. omega (arith, room .begins, room .known))
+            other i (λ e. omega (arith, inside)) (λ e. omega (arith, room .known, room .few)) (λ e. omega (arith, room .known, room .few)) (λ e. omega (arith, room .known))
             ∙ m .empty i (omega arith) h;
       }
 
-  pub one-more : Marking xs (k + 1) (entered ms j at n k o)
+  pub one-more : Marking xs (k + 1) (entered ms j f n k o)
   one-more =
       let y : k + 1 ≡ suc k = omega arith in
       let z : n + 1 ≡ suc n = omega arith in

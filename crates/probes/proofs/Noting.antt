@@ -1,5 +1,5 @@
 -- The probes on a node, one after another: what they show, and that the others show what they did.
-use Prim.Native.Nat.{ℕ, _+_, _*_, _≤_, _<_}
+use Prim.Native.Nat.{ℕ, _+_, _-_, _*_, _≤_, _<_}
 use mathlib.Core.Path.{_≡_, refl, sym, ap, subst, _∙_}
 use mathlib.Core.Bool.{Bool, true, false}
 use mathlib.Core.List.{List}
@@ -11,25 +11,25 @@ use borrow.Author.Tests.{eq-eqb, ne-eqb, eqb-true, eqb-false}
 use Rattle.word.specs.Tick.{Beam}
 use Rattle.calls.specs.Probes.{noted, zipWith}
 use Rattle.calls.specs.Probed.{probesOf}
-use Rattle.probes.specs.Marks.{nodeOf, outputOf, rowOf, countAt, probeAt, outputAt, Shows, Entry, Row, Listed, Probing, Marked, MarksOf}
+use Rattle.probes.specs.Marks.{nodeOf, outputOf, markOf, rowAt, countAt, probeAt, outputAt, Shows, Entry, Row, Listed, Probing, Marked, MarksOf}
 use Rattle.probes.proofs.Zips.{probe, zip-at, zip-long}
 
--- the row of a node that has one lies within the marks, and so does each of its entries
-module _ {k : ℕ} {marks : List ℕ} {j at : ℕ} (low : j < 512) (e : at ≡ rowOf marks j) (some : at ≡ 0 → ⊥) where
-  pub row-at : {xs : List ℕ} → Marked xs k marks → Row xs k marks j at
-  row-at {xs} m = subst (Row xs k marks j) (sym e) (m .rows j low (omega (arith, some)))
+-- the row of a node that is marked lies within the marks, and so does each of its entries
+module _ {k : ℕ} {marks : List ℕ} {j mark : ℕ} (low : j < 512) (e : mark ≡ markOf marks j) (some : mark ≡ 0 → ⊥) where
+  pub row-of : {xs : List ℕ} → Marked xs k marks → Row xs k marks j (mark - 1)
+  row-of m = m .rows j (mark - 1) low (omega (arith, some))
 
-  pub row-fits : MarksOf k marks → at < 1040
-  row-fits m = let r = row-at (m .marked) in omega (arith, r .begins, r .known, m .probing .few)
+  pub row-fits : MarksOf k marks → (mark - 1 < 16) × (countAt marks (rowAt (mark - 1)) ≤ 16)
+  row-fits m = let r = row-of (m .marked) in (omega (arith, r .known, m .probing .few), omega (arith, r .few, m .probing .few))
 
-  pub entry-shows : MarksOf k marks → (i : ℕ) → i < countAt marks at → Shows marks (at + 1 + 2 * i) k
+  pub entry-shows : MarksOf k marks → (i : ℕ) → i < countAt marks (rowAt (mark - 1)) → Shows marks (rowAt (mark - 1) + 1 + 2 * i) k
   entry-shows m i h =
-      let r = row-at (m .marked) in
+      let r = row-of (m .marked) in
       let y = r .entry i h in
       record {
-        fits = omega (arith, r .begins, r .few, m .probing .few);
+        fits = omega (arith, r .few, m .probing .few);
         probe = y .known;
-        output = omega (arith, y .output, m .probing .outputs (probeAt marks at i) (y .known));
+        output = omega (arith, y .output, m .probing .outputs (probeAt marks (rowAt (mark - 1)) i) (y .known));
       }
 
 -- node j has given ys; the first i entries of its row, which begins at `at`, are done
@@ -80,19 +80,20 @@ shows-all xs j ys vs₀ {vs} two long kept on =
     each k l false t = let n = eqb-false (nodeOf xs k) j t in rw (ne-eqb j (nodeOf xs k) (λ z. n (sym z))) (kept k n)
 
 module _ {xs marks vs₀ : List ℕ} (p : Probing xs (length vs₀)) (m : Marked xs (length vs₀) marks) (j : ℕ) (ys : Beam) where
-  -- a node without a row has no probe
-  pub none-noted : rowOf marks j ≡ 0 → vs₀ ≡ zipWith (noted j ys) (probesOf xs) vs₀
+  -- a node that is not marked has no probe
+  pub none-noted : markOf marks j ≡ 0 → vs₀ ≡ zipWith (noted j ys) (probesOf xs) vs₀
   none-noted e =
-      shows-all xs j ys vs₀ (p .two) refl (λ k n. refl)
-      (λ k l z. absurd (let r = m .listed k l .row in let y : rowOf marks (nodeOf xs k) ≡ 0 = ap (rowOf marks) z ∙ e in omega arith))
+      shows-all xs j ys vs₀ (p .two) refl (λ k n. refl) (λ k l z. absurd (let w = m .listed k l .mark in let y : markOf marks (nodeOf xs k) ≡ 0 = ap (markOf marks) z ∙ e in omega arith))
 
   -- once its row is done, all of its probes are
-  pub all-noted : {vs : List ℕ} {i at : ℕ} → at ≡ rowOf marks j → Noting xs marks j at ys vs₀ i vs → countAt marks at ≤ i → vs ≡ zipWith (noted j ys) (probesOf xs) vs₀
-  all-noted {vs} {i} {at} e q h = shows-all xs j ys vs₀ (p .two) (q .long) (q .kept) (λ k l z. on k z (m .listed k l))
+  pub all-noted : {vs : List ℕ} {i : ℕ} (f : ℕ) → markOf marks j ≡ f + 1 → Noting xs marks j (rowAt f) ys vs₀ i vs → countAt marks (rowAt f) ≤ i
+      → vs ≡ zipWith (noted j ys) (probesOf xs) vs₀
+  all-noted {vs} {i} f e q h = shows-all xs j ys vs₀ (p .two) (q .long) (q .kept) (λ k l z. on k z (m .listed k l))
     where
       on : (k : ℕ) → nodeOf xs k ≡ j → Listed xs marks k → getD vs k 0 ≡ getD ys (outputOf xs k) 0
       on k z w =
-          let a : rowOf marks (nodeOf xs k) ≡ at = ap (rowOf marks) z ∙ sym e in
-          let is : probeAt marks at (w .entry) ≡ k = ap (λ x. probeAt marks x (w .entry)) (sym a) ∙ w .is in
-          let l : w .entry < countAt marks at = subst (λ (x : ℕ). w .entry < countAt marks x) a (w .within) in
+          let y : f + 1 ≡ w .first + 1 = sym e ∙ ap (markOf marks) (sym z) ∙ w .mark in
+          let a : w .first ≡ f = omega arith in
+          let is : probeAt marks (rowAt f) (w .entry) ≡ k = ap (λ x. probeAt marks (rowAt x) (w .entry)) (sym a) ∙ w .is in
+          let l : w .entry < countAt marks (rowAt f) = subst (λ (x : ℕ). w .entry < countAt marks (rowAt x)) a (w .within) in
           subst (λ (x : ℕ). getD vs x 0 ≡ getD ys (outputOf xs x) 0) is (q .done (w .entry) (omega arith))

@@ -12,7 +12,7 @@ use beam::keep_list;
 use cells::block_ok;
 use named::probes_ok;
 use probes::MARKS;
-use probes::marked;
+use probes::mark;
 use probes::note;
 use refusal::Refusal;
 use step::circuit_step;
@@ -45,7 +45,7 @@ fn play(
     controls: &[u32; CONTROLS],
     cells: &mut [u32],
     outputs: &mut [u32],
-    marks: &[u32; MARKS],
+    marks: &[u8; MARKS],
     latest: &mut [u32],
     recording: &mut [u32],
 )
@@ -103,7 +103,8 @@ fn walk_ticks(
 {
     let mut set = [0u32; CONTROLS];
     keep_list(&mut set, 0, controls);
-    let marks = marked(probes);
+    let mut marks = [0u8; MARKS];
+    mark(probes, &mut marks);
     let watched = probes.len() / 2;
     let total = ticks * m;
     let all = ticks * watched;

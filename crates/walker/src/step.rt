@@ -130,7 +130,7 @@ pub fn circuit_step(
     controls: &[u32; CONTROLS],
     ins: &[u32; BEAM],
     cells: &mut [u32],
-    marks: &[u32; MARKS],
+    marks: &[u8; MARKS],
     latest: &mut [u32],
 ) -> [u32; BEAM]
     requires { ⌜ Ready (now table) (now shape) ⌝ }
@@ -167,7 +167,7 @@ fn demand_step(
     controls: &[u32; CONTROLS],
     ins: &[u32; BEAM],
     cells: &mut [u32],
-    marks: &[u32; MARKS],
+    marks: &[u8; MARKS],
     latest: &mut [u32],
 ) -> [u32; BEAM]
     requires { ⌜ Ready (now table) (now shape) ⌝ }

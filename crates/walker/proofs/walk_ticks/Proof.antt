@@ -1,5 +1,5 @@
 -- `walker::walk_ticks` meets its contract.
-use mathlib.Core.Path.{sym, _∙_}
+use mathlib.Core.Path.{refl, sym, _∙_}
 use native.Mathlib.Omega.{arith}
 use lib.Seq.{length-take-le}
 use Rattle.walker.proofs.Showing.{probing}
@@ -14,44 +14,44 @@ slice-aggregate-keep-list c = search needs
 keep-list-requires : tie.Need-keep-list-requires
 keep-list-requires c κs = omega (arith, c .before .before .before .before .before .before .before .before .before .pre .0 .controls-are)
 
-marked-requires : tie.Need-marked-requires
-marked-requires c κs = probing (c .before .before .before .before .before .before .before .before .before .before .before .pre .0 .surveyed .ready) (c .before .before .before .before .before .before .before .before .before .before .before .pre .1 .named)
+mark-requires : tie.Need-mark-requires
+mark-requires c κs = (probing (c .before .before .before .before .before .before .before .before .before .before .before .before .pre .0 .surveyed .ready) (c .before .before .before .before .before .before .before .before .before .before .before .before .pre .1 .named), record { is = refl })
 
 mul-total : tie.Need-mul-total
-mul-total c = omega (arith, samples-few (c .before .before .before .before .before .before .before .before .before .before .before .before .pre .0))
+mul-total c = omega (arith, samples-few (c .before .before .before .before .before .before .before .before .before .before .before .before .before .pre .0))
 
 mul-all : tie.Need-mul-all
-mul-all c = omega (arith, recordings-few (c .before .before .before .before .before .before .before .before .before .before .before .before .pre .0) (c .before .before .before .before .before .before .before .before .before .before .before .before .pre .1))
+mul-all c = omega (arith, recordings-few (c .before .before .before .before .before .before .before .before .before .before .before .before .before .pre .0) (c .before .before .before .before .before .before .before .before .before .before .before .before .before .pre .1))
 
 sub-root : tie.Need-sub-root
-sub-root c = omega (arith, c .before .before .before .before .before .before .before .before .before .before .before .before .pre .0 .surveyed .least)
+sub-root c = omega (arith, c .before .before .before .before .before .before .before .before .before .before .before .before .before .pre .0 .surveyed .least)
 
 slice-relend-prefix-play : tie.Need-slice-relend-prefix-play
-slice-relend-prefix-play c = c .before .before .before .before .before .before .before .before .before .before .before .before .before .pre .0 .cells-fit
+slice-relend-prefix-play c = c .before .before .before .before .before .before .before .before .before .before .before .before .before .before .pre .0 .cells-fit
 
 slice-aggregate-play : tie.Need-slice-aggregate-play
-slice-aggregate-play c = sym (length-take-le _ _ (c .before .before .before .before .before .before .before .before .before .before .before .before .before .before .pre .0 .cells-fit))
+slice-aggregate-play c = sym (length-take-le _ _ (c .before .before .before .before .before .before .before .before .before .before .before .before .before .before .before .pre .0 .cells-fit))
 
 slice-relend-prefix-play-2 : tie.Need-slice-relend-prefix-play-2
-slice-relend-prefix-play-2 c = c .before .before .before .before .before .before .before .before .before .before .before .before .before .before .pre .0 .outputs-fit
+slice-relend-prefix-play-2 c = c .before .before .before .before .before .before .before .before .before .before .before .before .before .before .before .pre .0 .outputs-fit
 
 slice-aggregate-play-2 : tie.Need-slice-aggregate-play-2
-slice-aggregate-play-2 c = sym (length-take-le _ _ (c .before .before .before .before .before .before .before .before .before .before .before .before .before .before .before .pre .0 .outputs-fit))
+slice-aggregate-play-2 c = sym (length-take-le _ _ (c .before .before .before .before .before .before .before .before .before .before .before .before .before .before .before .before .pre .0 .outputs-fit))
 
 slice-relend-prefix-play-3 : tie.Need-slice-relend-prefix-play-3
-slice-relend-prefix-play-3 c = c .before .before .before .before .before .before .before .before .before .before .before .before .before .before .before .before .pre .1 .latest-fits
+slice-relend-prefix-play-3 c = c .before .before .before .before .before .before .before .before .before .before .before .before .before .before .before .before .before .pre .1 .latest-fits
 
 slice-aggregate-play-3 : tie.Need-slice-aggregate-play-3
-slice-aggregate-play-3 c = sym (length-take-le _ _ (c .before .before .before .before .before .before .before .before .before .before .before .before .before .before .before .before .before .pre .1 .latest-fits))
+slice-aggregate-play-3 c = sym (length-take-le _ _ (c .before .before .before .before .before .before .before .before .before .before .before .before .before .before .before .before .before .before .pre .1 .latest-fits))
 
 slice-relend-prefix-play-4 : tie.Need-slice-relend-prefix-play-4
-slice-relend-prefix-play-4 c = c .before .before .before .before .before .before .before .before .before .before .before .before .before .before .before .before .before .pre .1 .recording-fits
+slice-relend-prefix-play-4 c = c .before .before .before .before .before .before .before .before .before .before .before .before .before .before .before .before .before .before .pre .1 .recording-fits
 
 slice-aggregate-play-4 : tie.Need-slice-aggregate-play-4
-slice-aggregate-play-4 c = sym (length-take-le _ _ (c .before .before .before .before .before .before .before .before .before .before .before .before .before .before .before .before .before .before .pre .1 .recording-fits))
+slice-aggregate-play-4 c = sym (length-take-le _ _ (c .before .before .before .before .before .before .before .before .before .before .before .before .before .before .before .before .before .before .before .pre .1 .recording-fits))
 
 play-requires : tie.Need-play-requires
-play-requires c κs = (playable (c .before .before .before .before .before .before .before .before .before .before .before .before .before .before .before .before .before .before .pre .0), recordable (c .before .before .before .before .before .before .before .before .before .before .before .before .before .before .before .before .before .before .pre .0) (c .before .before .before .before .before .before .before .before .before .before .before .before .before .before .before .before .before .before .pre .1) (c .before .before .before .before .before .before .marked .ensures))
+play-requires c κs = (playable (c .before .before .before .before .before .before .before .before .before .before .before .before .before .before .before .before .before .before .before .pre .0), recordable (c .before .before .before .before .before .before .before .before .before .before .before .before .before .before .before .before .before .before .before .pre .0) (c .before .before .before .before .before .before .before .before .before .before .before .before .before .before .before .before .before .before .before .pre .1) (c .before .before .before .before .before .before .mark .ensures))
 
 same-length : tie.Need-same-length
 same-length c = search needs
@@ -67,8 +67,8 @@ same-length-4 c = search needs
 
 returns : tie.Need-returns
 returns c =
-    all-walked (c .before .before .before .before .before .before .before .before .before .before .before .before .before .before .before .before .before .before .before .before .before .before .before .before .before .before .before .pre .0) (c .before .before .before .before .before .before .before .before .before .before .before .before .before .before .before .before .before .before .before .before .before .before .before .before .before .before .before .pre .1) (c .before .before .before .before .before .before .before .before .before .before .before .before .before .before .before .before .before .keep-list .ensures ∙ stored-over (c .before .before .before .before .before .before .before .before .before .before .before .before .before .before .before .before .before .before .before .before .before .before .before .before .before .before .before .args .controls .now) _ (sym (c .before .before .before .before .before .before .before .before .before .before .before .before .before .before .before .before .before .before .before .before .before .before .before .before .before .before .before .pre .0 .controls-are))) (c .before .before .before .before .before .before .before .before .play .ensures .0)
-    (c .before .before .before .before .before .before .before .before .play .ensures .1 (c .before .before .before .before .before .before .before .before .before .before .before .before .before .before .before .before .before .before .before .before .before .before .before .before .before .before .before .args .probes .now) (watching (c .before .before .before .before .before .before .before .before .before .before .before .before .before .before .before .before .before .before .before .before .before .before .before .before .before .before .before .pre .0) (c .before .before .before .before .before .before .before .before .before .before .before .before .before .before .before .before .before .before .before .before .before .before .before .before .before .before .before .pre .1) (c .before .before .before .before .before .before .before .before .before .before .before .before .before .before .before .marked .ensures)))
+    all-walked (c .before .before .before .before .before .before .before .before .before .before .before .before .before .before .before .before .before .before .before .before .before .before .before .before .before .before .before .before .pre .0) (c .before .before .before .before .before .before .before .before .before .before .before .before .before .before .before .before .before .before .before .before .before .before .before .before .before .before .before .before .pre .1) (c .before .before .before .before .before .before .before .before .before .before .before .before .before .before .before .before .before .before .keep-list .ensures ∙ stored-over (c .before .before .before .before .before .before .before .before .before .before .before .before .before .before .before .before .before .before .before .before .before .before .before .before .before .before .before .before .args .controls .now) _ (sym (c .before .before .before .before .before .before .before .before .before .before .before .before .before .before .before .before .before .before .before .before .before .before .before .before .before .before .before .before .pre .0 .controls-are))) (c .before .before .before .before .before .before .before .before .play .ensures .0)
+    (c .before .before .before .before .before .before .before .before .play .ensures .1 (c .before .before .before .before .before .before .before .before .before .before .before .before .before .before .before .before .before .before .before .before .before .before .before .before .before .before .before .before .args .probes .now) (watching (c .before .before .before .before .before .before .before .before .before .before .before .before .before .before .before .before .before .before .before .before .before .before .before .before .before .before .before .before .pre .0) (c .before .before .before .before .before .before .before .before .before .before .before .before .before .before .before .before .before .before .before .before .before .before .before .before .before .before .before .before .pre .1) (c .before .before .before .before .before .before .before .before .before .before .before .before .before .before .before .mark .ensures)))
 
 pub walk-ticks-spec : {M : Type 1} → statement M
 walk-ticks-spec =
@@ -76,7 +76,7 @@ walk-ticks-spec =
     (tie.spec
     slice-aggregate-keep-list
     keep-list-requires
-    marked-requires
+    mark-requires
     mul-total
     mul-all
     sub-root
