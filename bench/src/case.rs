@@ -87,9 +87,10 @@ impl Case {
         }
     }
 
-    /// The runner and both interpreters in four copies each, then the walker.
-    pub fn implementations(&self) -> [Implementation<'_>; 13] {
+    /// The runner, both interpreters and the walker, in four copies each.
+    pub fn implementations(&self) -> [Implementation<'_>; 16] {
         let code = |name, run| self.implementation(name, &self.code, run);
+        let [w0, w1, w2, w3] = self.walkers();
         [
             code("runner, copy 0", engine::run::<0>),
             code("runner, copy 1", engine::run::<1>),
@@ -103,12 +104,21 @@ impl Case {
             code("Rust, copy 1", interpreter::run::<1>),
             code("Rust, copy 2", interpreter::run::<2>),
             code("Rust, copy 3", interpreter::run::<3>),
-            self.walker(),
+            w0,
+            w1,
+            w2,
+            w3,
         ]
     }
 
-    pub fn walker(&self) -> Implementation<'_> {
-        self.implementation("walker", &self.table, engine::walk)
+    pub fn walkers(&self) -> [Implementation<'_>; 4] {
+        let table = |name, run| self.implementation(name, &self.table, run);
+        [
+            table("walker, copy 0", engine::walk::<0>),
+            table("walker, copy 1", engine::walk::<1>),
+            table("walker, copy 2", engine::walk::<2>),
+            table("walker, copy 3", engine::walk::<3>),
+        ]
     }
 }
 

@@ -10,25 +10,6 @@ unsafe extern "C" {
     fn circuit_check(table: *const u32, n: usize, counts: *mut u32, m: usize) -> u64;
     fn circuit_translate(table: *const u32, n: usize, code: *mut u32, m: usize) -> u64;
     fn circuit_load(named: u32, cells: *mut u32, n: usize) -> u64;
-    fn circuit_walk_probed(
-        table: *const u32,
-        table_len: usize,
-        probes: *const u32,
-        probes_len: usize,
-        ticks: u32,
-        inputs: *const u32,
-        inputs_len: usize,
-        controls: *const u32,
-        controls_len: usize,
-        cells: *mut u32,
-        cells_len: usize,
-        outputs: *mut u32,
-        outputs_len: usize,
-        latest: *mut u32,
-        latest_len: usize,
-        recording: *mut u32,
-        recording_len: usize,
-    ) -> u64;
 }
 
 /// Entries of the engine that work a block of ticks.
@@ -52,7 +33,34 @@ macro_rules! engine {
     };
 }
 
-/// The same in C, without lengths.
+/// The walker with probes.
+macro_rules! probed {
+    ($($name:ident)*) => {
+        unsafe extern "C" {
+            $(fn $name(
+                table: *const u32,
+                table_len: usize,
+                probes: *const u32,
+                probes_len: usize,
+                ticks: u32,
+                inputs: *const u32,
+                inputs_len: usize,
+                controls: *const u32,
+                controls_len: usize,
+                cells: *mut u32,
+                cells_len: usize,
+                outputs: *mut u32,
+                outputs_len: usize,
+                latest: *mut u32,
+                latest_len: usize,
+                recording: *mut u32,
+                recording_len: usize,
+            ) -> u64;)*
+        }
+    };
+}
+
+/// The C interpreter, without lengths.
 macro_rules! interpreter {
     ($($name:ident)*) => {
         unsafe extern "C" {
@@ -68,7 +76,9 @@ macro_rules! interpreter {
     };
 }
 
-engine! { circuit_walk circuit_run_0 circuit_run_1 circuit_run_2 circuit_run_3 }
+engine! { circuit_walk_0 circuit_walk_1 circuit_walk_2 circuit_walk_3 }
+engine! { circuit_run_0 circuit_run_1 circuit_run_2 circuit_run_3 }
+probed! { circuit_walk_probed_0 circuit_walk_probed_1 circuit_walk_probed_2 circuit_walk_probed_3 }
 interpreter! { run_c_0 run_c_1 run_c_2 run_c_3 }
 
 /// The count of an answer that is no refusal.
@@ -148,8 +158,20 @@ macro_rules! call {
     };
 }
 
-pub fn walk(table: &[u32], block: &Block, cells: &mut [u32], outputs: &mut [u32]) -> usize {
-    call!(circuit_walk, table, block, cells, outputs)
+/// The copy K of the walker.
+pub fn walk<const K: usize>(
+    table: &[u32],
+    block: &Block,
+    cells: &mut [u32],
+    outputs: &mut [u32],
+) -> usize {
+    let entry = [
+        circuit_walk_0,
+        circuit_walk_1,
+        circuit_walk_2,
+        circuit_walk_3,
+    ][K];
+    call!(entry, table, block, cells, outputs)
 }
 
 /// What a walk with probes is lent besides.
@@ -160,15 +182,21 @@ pub struct Probes<'a> {
 }
 
 /// The answer as it comes, for probes that may be refused.
-fn walk_probed_raw(
+fn walk_probed_raw<const K: usize>(
     table: &[u32],
     block: &Block,
     cells: &mut [u32],
     outputs: &mut [u32],
     probes: Probes,
 ) -> u64 {
+    let entry = [
+        circuit_walk_probed_0,
+        circuit_walk_probed_1,
+        circuit_walk_probed_2,
+        circuit_walk_probed_3,
+    ][K];
     unsafe {
-        circuit_walk_probed(
+        entry(
             table.as_ptr(),
             table.len(),
             probes.named.as_ptr(),
@@ -190,14 +218,15 @@ fn walk_probed_raw(
     }
 }
 
-pub fn walk_probed(
+/// The copy K of the walker with probes.
+pub fn walk_probed<const K: usize>(
     table: &[u32],
     block: &Block,
     cells: &mut [u32],
     outputs: &mut [u32],
     probes: Probes,
 ) -> usize {
-    count(walk_probed_raw(table, block, cells, outputs, probes))
+    count(walk_probed_raw::<K>(table, block, cells, outputs, probes))
 }
 
 /// Does the probe name an output of the table? Without any room a walk is refused: with 15 if not, else with 12.
@@ -212,7 +241,7 @@ pub fn names_output(table: &[u32], probe: [u32; 2]) -> bool {
         latest: &mut [],
         recording: &mut [],
     };
-    walk_probed_raw(table, &block, &mut [], &mut [], probes) >> 32 == 12
+    walk_probed_raw::<0>(table, &block, &mut [], &mut [], probes) >> 32 == 12
 }
 
 /// The copy K of the runner.

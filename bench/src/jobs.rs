@@ -9,12 +9,12 @@ use std::time::Duration;
 /// The block of a walk that is measured beside blocks of 4,096 ticks: shorter, so that it is tried more often.
 const WALK: usize = 256;
 
-/// Nanoseconds a tick, or a call of 0 ticks; runner, C and Rust in four copies.
+/// Nanoseconds a tick, or a call of 0 ticks, each in four copies.
 pub struct Times {
     pub runner: [f64; 4],
     pub c: [f64; 4],
     pub rust: [f64; 4],
-    pub walker: f64,
+    pub walker: [f64; 4],
 }
 
 impl Times {
@@ -24,7 +24,7 @@ impl Times {
             runner: four(0),
             c: four(4),
             rust: four(8),
-            walker: line[12],
+            walker: four(12),
         }
     }
 }
@@ -33,7 +33,7 @@ impl Times {
 fn per_tick(case: &Case, ticks: usize, walk: usize, lasting: Duration) -> Vec<f64> {
     let (block, walked) = (case.block(ticks), case.block(walk));
     let calls = case.implementations().map(|mut implementation| {
-        let walks = implementation.name == "walker";
+        let walks = implementation.name.starts_with("walker");
         let block = if walks { &walked } else { &block };
         Box::new(move || _ = black_box(implementation.play(block))) as Call
     });
@@ -41,7 +41,9 @@ fn per_tick(case: &Case, ticks: usize, walk: usize, lasting: Duration) -> Vec<f6
     for ns in &mut line[..12] {
         *ns /= ticks.max(1) as f64;
     }
-    line[12] /= walk.max(1) as f64;
+    for ns in &mut line[12..] {
+        *ns /= walk.max(1) as f64;
+    }
     line
 }
 
@@ -53,17 +55,24 @@ pub fn blocks(case: &Case, ticks: usize, lasting: Duration) -> Job<'_> {
     Box::new(move || per_tick(case, ticks, ticks, lasting))
 }
 
-/// Nanoseconds a tick of the walker, then with probes, of which there is none, and with the most.
+/// Nanoseconds a tick of the walker, then with probes, of which there is none, and with the most, each in four copies.
 pub fn probes(case: &Case, lasting: Duration) -> Job<'_> {
     Box::new(move || {
         let block = &case.block(WALK);
-        let mut walker = case.walker();
-        let [mut none, mut most] = [0, probes::MOST].map(|count| Probed::new(case, count));
-        let calls: [Call; 3] = [
-            Box::new(|| _ = black_box(walker.play(block))),
-            Box::new(|| _ = black_box(none.play(block))),
-            Box::new(|| _ = black_box(most.play(block))),
-        ];
+        let walks = case
+            .walkers()
+            .map(|mut walker| Box::new(move || _ = black_box(walker.play(block))) as Call);
+        let probed = [0, probes::MOST].map(|count| {
+            Probed::copies(case, count)
+                .map(|mut probed| Box::new(move || _ = black_box(probed.play(block))) as Call)
+        });
+        let calls: Vec<Call> = walks
+            .into_iter()
+            .chain(probed.into_iter().flatten())
+            .collect();
+        let Ok(calls) = <[Call; 12]>::try_from(calls) else {
+            unreachable!("three in four copies")
+        };
         interleaved(lasting, calls)
             .map(|ns| ns / WALK as f64)
             .to_vec()

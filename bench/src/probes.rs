@@ -5,8 +5,12 @@ use crate::engine::{self, Block, Probes};
 /// The most probes of a call.
 pub const MOST: usize = 16;
 
+/// Walks a table with probes: table, block, cells, outputs, probes.
+type Walk = fn(&[u32], &Block, &mut [u32], &mut [u32], Probes) -> usize;
+
 /// A circuit walked with probes; cells and list go on from call to call.
 pub struct Probed<'a> {
+    walk: Walk,
     table: &'a [u32],
     pub named: Vec<u32>,
     pub cells: Vec<u32>,
@@ -18,12 +22,13 @@ pub struct Probed<'a> {
 impl<'a> Probed<'a> {
     /// So many probes, each of the first output of a node, evenly over the nodes that have one. Where these are fewer,
     /// some are named more than once.
-    pub fn new(case: &'a Case, probes: usize) -> Probed<'a> {
+    fn new(case: &'a Case, probes: usize, walk: Walk) -> Probed<'a> {
         let nodes = case.nodes() as u32;
         let with_output = |node: &u32| engine::names_output(&case.table, [*node, 0]);
         let nodes: Vec<u32> = (0..nodes).filter(with_output).collect();
         let even = |i: usize| nodes[i * (nodes.len() - 1) / (probes - 1).max(1)];
         Probed {
+            walk,
             table: &case.table,
             named: (0..probes).flat_map(|i| [even(i), 0]).collect(),
             cells: case.loaded(),
@@ -33,13 +38,24 @@ impl<'a> Probed<'a> {
         }
     }
 
+    /// The walker in four copies.
+    pub fn copies(case: &'a Case, probes: usize) -> [Probed<'a>; 4] {
+        let walks: [Walk; 4] = [
+            engine::walk_probed::<0>,
+            engine::walk_probed::<1>,
+            engine::walk_probed::<2>,
+            engine::walk_probed::<3>,
+        ];
+        walks.map(|walk| Probed::new(case, probes, walk))
+    }
+
     pub fn play(&mut self, block: &Block) -> usize {
         let probes = Probes {
             named: &self.named,
             latest: &mut self.latest,
             recording: &mut self.recording,
         };
-        engine::walk_probed(
+        (self.walk)(
             self.table,
             block,
             &mut self.cells,

@@ -49,9 +49,9 @@ fn title() {
         "Made by `bench/run`. Each number is the least processor time of many calls. Those that are compared take \
          turns in one process, so that other load on the machine hits all alike. A load clears the cells before the \
          first call, and they go on from call to call; all buffers are warm.\n\n\
-         The speed of an interpreter depends on the alignment that the linker gives its code. Runner and C are \
-         measured in four copies, 0, 16, 32 and 48 bytes after a multiple of 64; Rust in four as they come; the others \
-         in one. Where one number is given it is the mean of the four.\n"
+         The speed of an interpreter depends on the alignment that the linker gives its code. Runner, C and walker \
+         are measured in four copies, 0, 16, 32 and 48 bytes after a multiple of 64; Rust in four as they come; the \
+         others in one. Where one number is given it is the mean of the four.\n"
     );
     machine::print();
 }
@@ -97,7 +97,7 @@ fn walkers(cases: &[Case], lines: &[Vec<f64>]) {
     heading("Walker and runner", text, columns);
     for (case, values) in cases.iter().zip(lines) {
         let times = Times::new(values);
-        let (walker, runner) = (times.walker, mean(times.runner));
+        let (walker, runner) = (mean(times.walker), mean(times.runner));
         let per_node = walker / case.nodes() as f64;
         let numbers = [walker, per_node, runner, walker / runner];
         line(&case.name, numbers.map(digits));
@@ -111,8 +111,12 @@ fn probes(cases: &[Case], lines: &[Vec<f64>]) {
     let columns = "circuit | walk | no probe | 16 probes | no probe / walk | 16 probes / walk";
     heading("Walker with probes", text, columns);
     for (case, times) in cases.iter().zip(lines) {
-        let ratios = times[1..].iter().map(|ns| ns / times[0]);
-        line(&case.name, times.iter().copied().chain(ratios).map(digits));
+        let [walk, none, most] = [0, 4, 8].map(|from| mean([0, 1, 2, 3].map(|k| times[from + k])));
+        let ratios = [none / walk, most / walk];
+        line(
+            &case.name,
+            [walk, none, most].into_iter().chain(ratios).map(digits),
+        );
     }
 }
 
@@ -138,7 +142,7 @@ fn nodes(family: &[Case], lines: &[Vec<f64>], tables: &[Vec<f64>]) {
         let times = Times::new(values);
         let nodes = case.nodes() as f64;
         let runner = mean(times.runner);
-        let pairs = [times.walker, table[1], table[2]].map(|ns| [ns, ns / nodes]);
+        let pairs = [mean(times.walker), table[1], table[2]].map(|ns| [ns, ns / nodes]);
         let numbers = [runner, runner / case.counts.instructions as f64].into_iter();
         line(
             &nodes.to_string(),
@@ -162,7 +166,7 @@ fn blocks(case: &Case, lines: &[Vec<f64>]) {
             mean(times.runner),
             mean(times.c),
             mean(times.rust),
-            times.walker,
+            mean(times.walker),
         ];
         line(&ticks.to_string(), numbers.map(digits));
     }

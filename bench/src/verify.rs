@@ -35,14 +35,16 @@ fn agree_probed(case: &Case, walker: &Implementation, probed: &mut Probed, block
 /// A history in blocks of several lengths, with other controls in each.
 pub fn verify(case: &Case) {
     let mut implementations = case.implementations();
-    let mut probed = Probed::new(case, probes::MOST);
+    let mut probed = Probed::copies(case, probes::MOST);
     let mut random = Random::new(13);
     let mut from = 0;
     for ticks in [1, 0, 2, 5, 64, 700, 1024] {
         let controls: Vec<u32> = (0..16).map(|_| random.below(3)).collect();
         let block = case.block_from(from, ticks, &controls);
         agree(&case.name, &mut implementations, &block);
-        agree_probed(case, &implementations[12], &mut probed, &block);
+        for probed in &mut probed {
+            agree_probed(case, &implementations[12], probed, &block);
+        }
         from += ticks;
     }
 }
