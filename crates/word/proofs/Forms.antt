@@ -10,7 +10,7 @@ use lib.IntN.{ℤ, pos, negsuc, negℤ, natAbs, _+ℤ_, _-ℤ_, _*ℤ_}
 use lib.Signed.{quotZ, remZ, ltZ, nonNeg}
 use borrow.Author.Tests.{ltb-true, ltb-false, lt-ltb, le-ltb}
 use Rattle.word.specs.Choice.{pick, bit}
-use Rattle.word.specs.Word.{value, low, within, clamp, withSign}
+use Rattle.word.specs.Word.{value, low, within, clamp, outside, clipped, withSign}
 use Rattle.word.specs.LowBits.{Arithmetic, exact, onWords}
 use Rattle.word.specs.Operation.{add, subtract, multiply, quotient, remainder, less, equal, absolute, negate, operate}
 use Rattle.word.proofs.Selector.{select-word}
@@ -136,6 +136,15 @@ clamp-form amount d = go (ltb amount (2 ^ 31))
     go : (b : Bool) → within d (pick b (pos amount) (negsuc (2 ^ 32 - suc amount))) ≡ pick b (min amount d) 0
     go true = refl
     go false = refl
+
+-- for a line that is short enough, the negative amounts are the large words
+pub clipped-form : (amount d : ℕ) → d < 2 ^ 31 → clipped amount d ≡ ltb d amount
+unfolding clipped value
+clipped-form amount d h = go (decLt amount (2 ^ 31))
+  where
+    go : Dec (amount < 2 ^ 31) → outside d (pick (ltb amount (2 ^ 31)) (pos amount) (negsuc (2 ^ 32 - suc amount))) ≡ ltb d amount
+    go (yes g) = rw (lt-ltb amount (2 ^ 31) g)
+    go (no g) = let k : 2 ^ 31 ≤ amount = omega arith in rw (le-ltb amount (2 ^ 31) k, lt-ltb d amount (omega arith))
 
 pub clamp-most : (amount d : ℕ) → clamp amount d ≤ d
 clamp-most amount d = rw (clamp-form amount d) (go (ltb amount (2 ^ 31)))

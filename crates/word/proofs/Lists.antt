@@ -7,7 +7,7 @@ use mathlib.Core.List.{List, [], _∷_, _++_, flatten, append-assoc, append-nil}
 use native.Mathlib.Omega.{arith}
 use lib.ListN.{length}
 use lib.Dec.{T, eqb, leb, ltb, eqb→eq, eqb-refl, lt→ltb, le→leb}
-use Rattle.word.specs.Choice.{_and_}
+use Rattle.word.specs.Choice.{_and_, _or_, bit}
 use Rattle.word.specs.Tick.{tailOf}
 
 pub passed : (b : Bool) → T b → b ≡ true
@@ -62,3 +62,30 @@ same-test false false f g = refl
 
 pub holds : (b : Bool) → b ≡ true → T b
 holds b e = rw e tt
+
+-- one of two
+pub or-second : (a b : Bool) → b ≡ true → true ≡ a or b
+or-second true b e = refl
+or-second false b e = sym e
+
+pub or-first : (a b : Bool) → b ≡ false → a ≡ a or b
+or-first true b e = refl
+or-first false b e = sym e
+
+pub or-none : (a : Bool) → a or false ≡ a
+or-none true = refl
+or-none false = refl
+
+pub or-assoc : (a b c : Bool) → (a or b) or c ≡ a or (b or c)
+or-assoc true b c = refl
+or-assoc false b c = refl
+
+pub or-either-way : (a b : Bool) → a or b ≡ b or a
+or-either-way true true = refl
+or-either-way true false = refl
+or-either-way false true = refl
+or-either-way false false = refl
+
+pub bit-few : (b : Bool) → bit b ≤ 1
+bit-few true = omega arith
+bit-few false = omega arith

@@ -12,6 +12,11 @@ abbrev pub _and_ : Bool → Bool → Bool
 true and b = b
 false and b = false
 
+infixr 5 _or_
+abbrev pub _or_ : Bool → Bool → Bool
+true or b = true
+false or b = b
+
 -- "1 if .., else 0"
 abbrev pub bit : Bool → ℕ
 bit true = 1

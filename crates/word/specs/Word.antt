@@ -23,6 +23,14 @@ within d (negsuc n) = 0
 unfoldable pub clamp : ℕ → ℕ → ℕ
 clamp amount d = within d (value amount)
 
+-- E6: "whether the amount was outside 0 to D"
+abbrev pub outside : ℕ → ℤ → Bool
+outside d (pos n) = ltb d n
+outside d (negsuc n) = true
+
+unfoldable pub clipped : ℕ → ℕ → Bool
+clipped amount d = outside d (value amount)
+
 -- the word of a magnitude with its sign
 abbrev pub withSign : Bool → ℕ → ℕ
 withSign true m = m

@@ -4,6 +4,7 @@ pub mod limits;
 use std::num::wrapping_add_u32;
 use std::num::wrapping_sub_u32;
 ghost use mathlib.Core.Path.{_≡_};
+ghost use Rattle.word.specs.Choice.{bit as bitOf};
 ghost use Rattle.word.specs.Word.{withSign};
 ghost use Rattle.word.specs.Operation.{add as addOf, subtract as subtractOf, multiply as multiplyOf, quotient as quotientOf, remainder as remainderOf, less as lessOf, equal as equalOf, absolute as absoluteOf, negate as negateOf, select as selectOf, operate as operateOf, operands as operandsOf, demand as demandOf};
 
@@ -130,6 +131,13 @@ pub fn demand(clock: u32) -> bool
     ensures { λ r. ⌜ r ≡ demandOf clock ⌝ }
 {
     clock != 0
+}
+
+// 1 for true, 0 for false.
+pub fn bit(b: bool) -> u32
+    ensures { λ r. ⌜ r ≡ bitOf b ⌝ }
+{
+    if b { 1 } else { 0 }
 }
 
 // A word as an index.
