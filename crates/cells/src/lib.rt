@@ -7,27 +7,37 @@ use word::limits::MOST_TICKS;
 ghost use mathlib.Core.Path.{_≡_};
 ghost use mathlib.Core.List.{_++_};
 ghost use Prim.Native.Nat.{_+_, _-_, _*_, _%_, _^_, _<_, _≤_};
-ghost use lib.ListN.{length, drop};
+ghost use lib.ListN.{length, getD, drop};
+ghost use Rattle.word.specs.Choice.{_or_};
 ghost use Rattle.word.specs.Limits.{widest};
-ghost use Rattle.word.specs.Word.{clamp as clampOf};
+ghost use Rattle.word.specs.Word.{clamp as clampOf, clipped as clippedOf};
 ghost use Rattle.word.specs.Tick.{zeros};
 ghost use Rattle.refusal.specs.Outcome.{outcome};
 ghost use Rattle.cells.specs.Load.{loaded, answerOf};
 ghost use Rattle.cells.specs.Block.{blockOk};
 ghost use Rattle.cells.specs.Delay.{position as positionOf, delayed as delayedOf, moved as movedOf};
 
-// How far back, from 0 to d.
+// How far back, from 0 to d. What is not clipped is tested first, by the one comparison that tells.
 fn clamp(amount: u32, d: usize) -> usize
+    requires { ⌜ d < 2 ^ 31 ⌝ }
     ensures { λ r. ⌜ (r ≡ clampOf amount d) × (r ≤ d) ⌝ }
 {
+    let a = index(amount);
+    if a <= d {
+        return a;
+    }
     if amount < 2147483648 {
-        let a = index(amount);
-        if a < d {
-            return a;
-        }
         return d;
     }
     0
+}
+
+// Is the amount outside 0 to d? As a word, a negative one is above every d.
+fn outside(amount: u32, d: usize) -> bool
+    requires { ⌜ d < 2 ^ 31 ⌝ }
+    ensures { λ r. ⌜ r ≡ clippedOf amount d ⌝ }
+{
+    d < index(amount)
 }
 
 // Where the ring is written next.
@@ -65,54 +75,69 @@ fn after(p: usize, d: usize) -> usize
     0
 }
 
-// What a delay gives: the sample so far back in its line.
-fn tap(line: &[u32], input: u32, amount: u32, d: usize) -> u32
+// What a delay gives: the sample so far back in its line, whose position is p.
+fn tap(line: &[u32], p: usize, input: u32, amount: u32, d: usize) -> u32
     requires { ⌜ (length (now line) ≡ d + 1) × (d < 2 ^ 31) ⌝ }
+    requires { ⌜ (p ≡ positionOf d (getD (now line) 0 0)) × (p < d) ⌝ }
     ensures { λ r. ⌜ r ≡ delayedOf 0 d input amount (now (line .entry)) ⌝ }
 {
     let back = clamp(amount, d);
     if back == 0 {
         return input;
     }
-    let p = position(line[0], d);
     line[1 + behind(p, back, d)]
 }
 
-// The input into the ring, and the position on by one.
-fn moved(line: &mut [u32], input: u32, d: usize)
+// The input into the ring, and the position, p, on by one.
+fn moved(line: &mut [u32], p: usize, input: u32, d: usize)
     requires { ⌜ (length (now line) ≡ d + 1) × (d < 2 ^ 31) ⌝ }
+    requires { ⌜ (p ≡ positionOf d (getD (now line) 0 0)) × (p < d) ⌝ }
     ensures { λ _. ⌜ now (line .exit) ≡ movedOf 0 d input (now (line .entry)) ⌝ }
 {
-    if d == 0 {
-        return;
-    }
-    let p = position(line[0], d);
     line[1 + p] = input;
     line[0] = after(p, d) as u32;
 }
 
-// What a delay step gives.
+// What a delay step gives: its value, and whether the amount was outside 0 to d.
 pub struct Delayed {
     pub value: u32,
+    pub clipped: bool,
 }
 
 // One step of a delay on its own line: the position, then the ring.
 pub fn delay_step(line: &mut [u32], input: u32, amount: u32, d: usize) -> Delayed
     requires { ⌜ (length (now line) ≡ d + 1) × (d < 2 ^ 31) ⌝ }
-    ensures { λ r. ⌜ (r .value ≡ delayedOf 0 d input amount (now (line .entry))) × (now (line .exit) ≡ movedOf 0 d input (now (line .entry))) ⌝ }
+    ensures { λ r. ⌜ (r .value ≡ delayedOf 0 d input amount (now (line .entry))) × (now (line .exit) ≡ movedOf 0 d input (now (line .entry))) × (r .clipped ≡ clippedOf amount d) ⌝ }
 {
-    let value = tap(line, input, amount, d);
-    moved(line, input, d);
-    Delayed { value: value }
+    let clipped = outside(amount, d);
+    if d == 0 {
+        return Delayed {
+            value: input,
+            clipped,
+        };
+    }
+    let p = position(line[0], d);
+    let value = tap(line, p, input, amount, d);
+    moved(line, p, input, d);
+    Delayed { value, clipped }
 }
 
 // The step of the delay whose line begins at base: that part of the cells is handed on.
 pub fn delay_at(cells: &mut [u32], base: usize, d: usize, input: u32, amount: u32) -> Delayed
     requires { ⌜ (base + (d + 1) ≤ length (now cells)) × (d < 2 ^ 31) ⌝ }
-    ensures { λ r. ⌜ (r .value ≡ delayedOf base d input amount (now (cells .entry))) × (now (cells .exit) ≡ movedOf base d input (now (cells .entry))) ⌝ }
+    ensures { λ r. ⌜ (r .value ≡ delayedOf base d input amount (now (cells .entry))) × (now (cells .exit) ≡ movedOf base d input (now (cells .entry))) × (r .clipped ≡ clippedOf amount d) ⌝ }
 {
     let end = base + (d + 1);
     delay_step(&mut cells[base..end], input, amount, d)
+}
+
+// Told that a delay was clipped, or told so before.
+pub fn tell(told: &mut bool, clipped: bool)
+    ensures { λ _. ⌜ now (told .exit) ≡ (now (told .entry) or clipped) ⌝ }
+{
+    if clipped {
+        *told = true;
+    }
 }
 
 // The first count cells are set to 0.

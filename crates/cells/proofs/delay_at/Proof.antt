@@ -44,6 +44,7 @@ returns c =
     let fits : b + n ≤ length cs = omega arith in (
       c .before .before .delay-step .ensures .0 ∙ sym (delayed-part b d n x cs size fits (c .before .before .before .before .before .args .amount)),
       ap (λ l. take b cs ++ (l ++ drop n (drop b cs))) (c .before .before .delay-step .ensures .1) ∙ sym (moved-part b d n x cs size fits),
+      c .before .before .delay-step .ensures .2,
     )
 
 pub delay-at-spec : {M : Type 1} → statement M

@@ -13,15 +13,6 @@ moved-some : (d x : ℕ) (cs : List ℕ) → 0 < d → moved 0 d x cs ≡ set (s
 moved-some zero x cs h = absurd (omega arith)
 moved-some (suc d) x cs h = refl
 
-returns : tie.Need-returns
-returns c = search needs
-
-slice-read-position : tie.Need-slice-read-position
-slice-read-position c = search needs
-
-position-requires : tie.Need-position-requires
-position-requires c κs = search needs
-
 add-line : tie.Need-add-line
 add-line c = search needs
 
@@ -43,16 +34,15 @@ slice-write-line-2 c = simp length-set (omega arith)
 same-length : tie.Need-same-length
 same-length c = search needs
 
-returns-2 : tie.Need-returns-2
-returns-2 c = rw (← c .before .position .ensures .0, ← c .after .ensures .0) at (sym (moved-some (c .before .before .before .before .before .args .d) (c .before .before .before .before .before .args .input) (c .before .before .before .before .before .args .line .now) (omega (arith, c .before .position .ensures .1))))
+returns : tie.Need-returns
+returns c =
+    let k = c .before .before .pre .1 in
+    rw (← k .0, ← c .after .ensures .0) at (sym (moved-some (c .before .before .args .d) (c .before .before .args .input) (c .before .before .args .line .now) (omega (arith, k .1))))
 
 pub moved-spec : {M : Type 1} → statement M
 moved-spec =
     tie.close
     (tie.spec
-    returns
-    slice-read-position
-    position-requires
     add-line
     mul-line
     slice-write-line
@@ -60,4 +50,4 @@ moved-spec =
     cast-line
     slice-write-line-2
     same-length
-    returns-2)
+    returns)

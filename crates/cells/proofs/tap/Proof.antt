@@ -11,12 +11,6 @@ clamp-requires c κs = search needs
 returns : tie.Need-returns
 returns c = simp (eq-eqb _ _ (sym (c .before .clamp .ensures .0) ∙ c .if1 .taken))
 
-shared-slice-read-position : tie.Need-shared-slice-read-position
-shared-slice-read-position c = search needs
-
-position-requires : tie.Need-position-requires
-position-requires c κs = search needs
-
 behind-requires : tie.Need-behind-requires
 behind-requires c κs = search needs
 
@@ -30,7 +24,7 @@ shared-slice-read-result : tie.Need-shared-slice-read-result
 shared-slice-read-result c = search needs
 
 returns-2 : tie.Need-returns-2
-returns-2 c = rw (← c .before .before .before .before .before .clamp .ensures .0, ne-eqb _ _ (c .before .before .before .before .if1 .left), ← c .before .before .position .ensures .0, ← c .before .behind .ensures .0)
+returns-2 c = rw (← c .before .before .before .clamp .ensures .0, ne-eqb _ _ (c .before .before .if1 .left), ← c .before .before .before .before .before .pre .1 .0, ← c .before .behind .ensures .0)
 
 pub tap-spec : {M : Type 1} → statement M
 tap-spec =
@@ -38,8 +32,6 @@ tap-spec =
     (tie.spec
     clamp-requires
     returns
-    shared-slice-read-position
-    position-requires
     behind-requires
     add-result
     mul-result
