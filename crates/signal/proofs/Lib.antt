@@ -1,6 +1,7 @@
 pub mod Beams
 pub mod Causal
 pub mod Own
+pub mod Clips
 pub mod Wire
 pub mod Quiet
 pub mod Words
@@ -9,3 +10,4 @@ pub mod Clock
 pub mod ClockExamples
 pub mod Bench
 mod Borders
+mod ClipBorders

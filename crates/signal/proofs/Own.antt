@@ -50,10 +50,10 @@ own-start (ondemand i b) j = go (eqb i j) (own-start b j)
     go false p = p
 
 -- a composition's sides have a tick more at each tick
-abbrev Longer : History → History → Type 0
+abbrev pub Longer : History → History → Type 0
 Longer h h′ = (g : Tick) × (h′ ≡ g ∷ h)
 
-left-longer : (c : Composition) (l r : Tree) (f : Tick) (h : History) → Longer (leftHistory c l r h) (leftHistory c l r (f ∷ h))
+pub left-longer : (c : Composition) (l r : Tree) (f : Tick) (h : History) → Longer (leftHistory c l r h) (leftHistory c l r (f ∷ h))
 unfolding leftHistory
 left-longer sequence l r f h = (f, refl)
 left-longer parallel l r f h = (_, refl)
@@ -61,7 +61,7 @@ left-longer split l r f h = (f, refl)
 left-longer merge l r f h = (f, refl)
 left-longer recursion l r f h = (_, loop-left-next (signal l) (signal r) (ins r) (causal l) (causal r) f h)
 
-right-longer : (c : Composition) (l r : Tree) (f : Tick) (h : History) → Longer (rightHistory c l r h) (rightHistory c l r (f ∷ h))
+pub right-longer : (c : Composition) (l r : Tree) (f : Tick) (h : History) → Longer (rightHistory c l r h) (rightHistory c l r (f ∷ h))
 unfolding rightHistory
 right-longer sequence l r f h = (_, wire-next (signal l) (causal l) f h)
 right-longer parallel l r f h = (_, refl)

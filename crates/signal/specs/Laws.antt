@@ -1,17 +1,21 @@
 -- What is proved of the meaning of every circuit.
 use Prim.Native.Nat.{ℕ}
 use mathlib.Core.Path.{_≡_}
+use mathlib.Core.Bool.{true}
 use mathlib.Core.List.{[], _∷_}
-use lib.ListN.{length}
+use lib.ListN.{length, getD}
+use Rattle.word.specs.Word.{clipped}
 use Rattle.word.specs.Tick.{Tick, headOr, zeros, Each, Words}
 use Rattle.arity.specs.Tree.{Tree, outs}
-use Rattle.arity.specs.Tree.Tree.{ondemand}
+use Rattle.arity.specs.Tree.Tree.{leaf, ondemand}
+use Rattle.arity.specs.Tree.Primitive.{delay}
 use Rattle.arity.specs.Nodes.{Numbered, Distinct, subtree}
 use Rattle.arity.specs.WellFormed.{WellFormed}
 use Rattle.signal.specs.Signal.{History, Processor, demands, signal}
 use Rattle.signal.specs.History.{own, NoDemand}
 use Rattle.signal.specs.Contents.{contents}
 use Rattle.signal.specs.Wire.{Probe, wireAfter}
+use Rattle.signal.specs.Clips.{clips}
 
 -- a tick adds one beam to the outputs, and leaves the earlier ones as they were
 pub record Causal (p : Processor) : Type 0 where
@@ -53,3 +57,20 @@ pub record BodyRests (t b : Tree) (i : ℕ) (f : Tick) (h : History) : Type 0 wh
 
 abbrev pub AllBodiesRest : Type 0
 AllBodiesRest = (t b : Tree) → Distinct t → (i : ℕ) → Numbered t i → subtree t i ≡ ondemand i b → (f : Tick) (h : History) → NoDemand t i f h → BodyRests t b i f h
+
+-- E6: the tick f brings an own tick, `at`, to a delay of the tree, whose amount then lies outside 0 to D
+pub record ClippedDelay (t : Tree) (f : Tick) (h : History) : Type 0 where
+  pub node : ℕ
+  pub numbered : Numbered t node
+  pub most : ℕ
+  pub delays : subtree t node ≡ leaf node (delay most)
+  pub at : Tick
+  pub brings : own t (f ∷ h) node ≡ at ∷ own t h node
+  pub outside : clipped (getD (at .inputs) 1 0) most ≡ true
+
+-- a tick counts where there is such a delay, and only there
+abbrev pub ClipsSome : Type 0
+ClipsSome = (t : Tree) → Distinct t → (f : Tick) (h : History) → clips t (f ∷ h) ≡ true → ClippedDelay t f h
+
+abbrev pub SomeClips : Type 0
+SomeClips = (t : Tree) → Distinct t → (f : Tick) (h : History) → ClippedDelay t f h → clips t (f ∷ h) ≡ true

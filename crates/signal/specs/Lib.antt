@@ -4,4 +4,5 @@ pub mod Contents
 pub mod Clock
 pub mod Samples
 pub mod Wire
+pub mod Clips
 pub mod Laws
