@@ -3,6 +3,7 @@ use Prim.Native.Nat.{ℕ, _+_, _*_, _≤_, min}
 use mathlib.Core.Path.{_≡_, refl, sym, ap, ap₂, _∙_}
 use mathlib.Core.Bool.{Bool, true, false}
 use mathlib.Core.List.{List, _++_, reverseAux, append-assoc, append-nil}
+use native.Mathlib.Nat.{add-zero}
 use native.Mathlib.Omega.{arith}
 use lib.IntN.{ℤ}
 use lib.ListN.{length, drop, take, length-append, length-take, take-append-drop}
@@ -11,12 +12,13 @@ use lib.Dec.{leb, leb→le, le→leb}
 use Rattle.word.specs.Choice.{_and_, pick}
 use Rattle.word.proofs.Lists.{first-true, same-test, holds}
 use Rattle.refusal.specs.Answer.Answer.{refused}
-use Rattle.cells.specs.Block.{Ran, unchanged, refusal, counted, ticksOf, blockOk, answered, called}
+use Rattle.cells.specs.Block.{Ran, unchanged, refusal, counted, reportOf, withoutReport, ticksOf, blockOk, answered, called}
 use Rattle.cells.proofs.Calls as cellCalls
 use Rattle.arity.specs.Tree.{Tree, ins, outs}
 use Rattle.arity.specs.Nodes.{Complete, cellsBefore}
 use Rattle.arity.specs.WellFormed.{WellFormed}
 use Rattle.signal.specs.Signal.{History, samples}
+use Rattle.signal.specs.Clips.{clippedTicks}
 use Rattle.calls.specs.Step.{step}
 use Rattle.calls.specs.Calls.{Arguments, Call, Program, Element, lentTo, resultOf, blockAfter, bufferOf, callOf, ticksAdded, answerTo}
 use Rattle.calls.specs.Calls.Element.{own, other}
@@ -37,10 +39,11 @@ module _ (n : ℕ) (t : Tree) (w : WellFormed t) (c : Complete n t) (front behin
   abbrev pub around : History → List ℕ
   around h = front ++ (cellsAt n t w c h ++ behind)
 
-  -- what a call leaves after the history h: its buffer past what it wrote, the samples so far, and the block
+  -- what a call leaves after the history h: its buffer past what it wrote, the samples and the reports so far, and the block
   pub record Leaves (h : History) (x : Element) (r : Ran) (block : List ℕ) : Type 0 where
     pub keeps : drop (counted (r .answer)) (r .outputs) ≡ drop (counted (r .answer)) (bufferOf x)
     pub meaning : samples t h ++ take (counted (r .answer)) (r .outputs) ≡ samples t (reverseAux (ticksAdded (ins t) x (r .answer)) h)
+    pub reports : clippedTicks t h + reportOf (r .answer) ≡ clippedTicks t (reverseAux (ticksAdded (ins t) x (r .answer)) h)
     pub cells : block ≡ around (reverseAux (ticksAdded (ins t) x (r .answer)) h)
 
   -- a refused call, lent whatever part of the block
@@ -52,6 +55,7 @@ module _ (n : ℕ) (t : Tree) (w : WellFormed t) (c : Complete n t) (front behin
       (record {
         keeps = refl;
         meaning = append-nil (samples t h);
+        reports = add-zero (clippedTicks t h);
         cells = ap (λ xs. take (call .from) b ++ xs) (take-append-drop (call .lent) (drop (call .from) b)) ∙ take-append-drop (call .from) b;
       })
 
@@ -92,16 +96,23 @@ module _ (n : ℕ) (t : Tree) (w : WellFormed t) (c : Complete n t) (front behin
         record {
           keeps = k .keeps;
           meaning = k .meaning;
+          reports = k .reports;
           cells = ap (λ xs. front ++ (xs ++ drop (a .lent) tail)) (k .cells-after)
               ∙ ap (λ xs. front ++ xs) (append-assoc new (drop N given) (drop (a .lent) tail) ∙ ap (λ xs. new ++ xs) rest);
         }
 
     no-leaves : (x : ℕ) → Leaves h (own a) (no x) (after (no x))
-    no-leaves x = record { keeps = refl; meaning = append-nil (samples t h); cells = ap (λ xs. front ++ xs) (take-append-drop (a .lent) tail) }
+    no-leaves x =
+        record {
+          keeps = refl;
+          meaning = append-nil (samples t h);
+          reports = add-zero (clippedTicks t h);
+          cells = ap (λ xs. front ++ xs) (take-append-drop (a .lent) tail);
+        }
 
     -- any call of the program: its answer, and what it leaves
     pub record Handles (r : Ran) (block : List ℕ) : Type 0 where
-      pub answer : r .answer ≡ answerTo (ins t) (outs t) (cellsBefore t n) a
+      pub answer : withoutReport (r .answer) ≡ answerTo (ins t) (outs t) (cellsBefore t n) a
       pub leaves : Leaves h (own a) r block
 
     -- the two tests of rows 14 and 12

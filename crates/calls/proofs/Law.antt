@@ -1,20 +1,22 @@
 -- The law: over every list of calls, from the circuit's cells after a history, the samples and the cells are those of the meaning.
-use Prim.Native.Nat.{ℕ}
+use Prim.Native.Nat.{ℕ, _+_}
 use mathlib.Core.Path.{_≡_, sym, ap, _∙_}
 use mathlib.Core.List.{List, [], _∷_, _++_, map, reverseAux, reverseAux-append, flatten, append-assoc, append-nil}
+use native.Mathlib.Nat.{add-zero, add-assoc}
 use native.Mathlib.Omega.{arith}
 use lib.IntN.{ℤ}
 use lib.ListN.{length, drop, take, length-append, take-append-drop}
 use lib.Seq.{length-take-le, take-at, drop-at}
 use Rattle.word.specs.Tick.{Tick, Each}
 use Rattle.refusal.specs.Answer.Answer.{refused}
-use Rattle.cells.specs.Block.{Ran, unchanged, counted}
+use Rattle.cells.specs.Block.{Ran, unchanged, counted, reportOf}
 use Rattle.arity.specs.Tree.{Tree, ins}
 use Rattle.arity.specs.Nodes.{Complete, cellsBefore}
 use Rattle.arity.specs.WellFormed.{WellFormed}
 use Rattle.signal.specs.Signal.{History, samples}
+use Rattle.signal.specs.Clips.{clippedTicks}
 use Rattle.signal.specs.Contents.{cellsAfter}
-use Rattle.calls.specs.Calls.{Call, Refused, Element, Program, RefusedIfOther, lentTo, resultOf, blockAfter, callOf, eventOf, events, left, ticksAdded, addedBy, written, OthersRefused}
+use Rattle.calls.specs.Calls.{Call, Refused, Element, Program, RefusedIfOther, lentTo, resultOf, blockAfter, callOf, eventOf, events, left, ticksAdded, addedBy, written, reported, OthersRefused}
 use Rattle.calls.specs.Calls as calls
 use Rattle.calls.specs.Calls.Element.{own, other}
 use Rattle.calls.specs.Law.{Answered, RefusedWroteNothing, KeptRest, Lawful, IsProgramOf, HoldsPast, history}
@@ -69,11 +71,12 @@ module _ (n : ℕ) (t : Tree) (w : WellFormed t) (c : Complete n t) (work : Prog
       refusals : Each RefusedWroteNothing (events work at block list)
       buffers : Each KeptRest (events work at block list)
       meaning : samples t h ++ written work at block list ≡ samples t (reverseAux (allAdded block list) h)
+      reports : clippedTicks t h + reported work at block list ≡ clippedTicks t (reverseAux (allAdded block list) h)
       cells : left work at block list ≡ around n t w c front behind (reverseAux (allAdded block list) h)
 
     lawful-from : (h : History) (block : List ℕ) → block ≡ around n t w c front behind h → (list : List Element) → OthersRefused work at block list → LawfulFrom h block list
-    unfolding events left written OthersRefused
-    lawful-from h block u [] o = record { answers = tt; refusals = tt; buffers = tt; meaning = append-nil (samples t h); cells = u }
+    unfolding events left written reported OthersRefused
+    lawful-from h block u [] o = record { answers = tt; refusals = tt; buffers = tt; meaning = append-nil (samples t h); reports = add-zero (clippedTicks t h); cells = u }
     lawful-from h block u (x ∷ list) o =
         let k : Handled h block x = rw u (handled h x (rw u at (o .0))) in
         let r = resultOf (callOf work at x) block in
@@ -87,6 +90,7 @@ module _ (n : ℕ) (t : Tree) (w : WellFormed t) (c : Complete n t) (work : Prog
           refusals = (k .refusal, f .refusals);
           buffers = (k .leaves .keeps, f .buffers);
           meaning = sym (append-assoc (samples t h) wr (written work at next list)) ∙ ap (λ xs. xs ++ written work at next list) (k .leaves .meaning) ∙ f .meaning ∙ ap (samples t) (sym e);
+          reports = sym (add-assoc (clippedTicks t h) (reportOf (r .answer)) (reported work at next list)) ∙ ap (λ k. k + reported work at next list) (k .leaves .reports) ∙ f .reports ∙ ap (clippedTicks t) (sym e);
           cells = f .cells ∙ ap (around n t w c front behind) (sym e);
         }
 
@@ -107,5 +111,6 @@ module _ (n : ℕ) (t : Tree) (w : WellFormed t) (c : Complete n t) (work : Prog
         refusals = l .refusals;
         buffers = l .buffers;
         meaning = samples-since t past (allAdded block list) (written work at block list) (l .meaning);
+        reports = l .reports;
         cells = l .cells ∙ ap (λ xs. front ++ (xs ++ behind)) (walk-right n t w c (history n t work at past block list) .cells);
       }

@@ -7,11 +7,12 @@ use native.Mathlib.Omega.{arith}
 use lib.IntN.{ℤ}
 use lib.ListN.{length, drop, take, getD, length-map, length-replicate}
 use lib.Seq.{take-all, take-at}
-use Rattle.word.specs.Tick.{Tick, Each, zeros}
+use Rattle.word.specs.Tick.{Tick, Each, headOr, zeros}
 use Rattle.refusal.specs.Answer.{Answer, count}
 use Rattle.refusal.specs.Answer.Answer.{counts, refused}
-use Rattle.cells.specs.Block.{ticksOf}
+use Rattle.cells.specs.Block.{withoutReport, ticksOf}
 use Rattle.cells.specs.Load.{loaded}
+use Rattle.cells.proofs.Calls.{unreported, refused-has-none}
 use Rattle.arity.specs.Tree.{Tree, ins, outs}
 use Rattle.arity.specs.Nodes.{Complete, cellsBefore}
 use Rattle.arity.specs.WellFormed.{WellFormed}
@@ -73,7 +74,7 @@ module _ (n : ℕ) (t : Tree) (w : WellFormed t) (c : Complete n t) (walk : Prog
       one-refused : (x : ℕ) (p : ℤ) → probedAnswerTo n t xs a ≡ refused x p
           → result ≡ untouched (refused x p) (take (a .walk .lent) block) (a .walk .outputs) (take (a .kept) list) (a .recording)
       unfolding probedEvents
-      one-refused x p h = one .refusals .0 x p (one .answers .0 ∙ h)
+      one-refused x p h = one .refusals .0 x p (refused-has-none _ x p (one .answers .0 ∙ h))
 
       -- accepted, its recording and the list are those of its ticks, and the rest of the recording is kept
       module _ (g : probedAnswerTo n t xs a ≡ count (a .walk .ticks * outs t)) where
@@ -83,28 +84,33 @@ module _ (n : ℕ) (t : Tree) (w : WellFormed t) (c : Complete n t) (walk : Prog
         abbrev K : ℕ
         K = a .walk .ticks * length ps
 
-        one-answer : result .ran .answer ≡ count (a .walk .ticks * outs t)
+        one-answer : withoutReport (result .ran .answer) ≡ count (a .walk .ticks * outs t)
         unfolding probedEvents
         one-answer = one .answers .0 ∙ g
+
+        -- what does not turn on the report
+        seen : {A : Type 0} (f : Answer → A) → ((ks : List ℕ) → f (counts ks) ≡ f (count (headOr 0 ks))) → f (result .ran .answer) ≡ f (count (a .walk .ticks * outs t))
+        seen f e = unreported f e (result .ran .answer) ∙ ap f one-answer
 
         one-history : history n t xs walk work 0 [] block list (ownWalk a ∷ []) ≡ reverse ticks
         unfolding calls.history probedEvents flatten
         one-history =
             ap (λ (es : List Event). reverseAux (flatten (map (addedBy (ins t)) es)) []) (one .same)
-            ∙ ap (λ (y : Answer). reverseAux (ticksAdded (ins t) (plainElement (probedCallOf work 0 (ownWalk a)) (take (a .kept) list) (ownWalk a) y) y ++ []) []) one-answer
+            ∙ seen (λ y. reverseAux (ticksAdded (ins t) (plainElement (probedCallOf work 0 (ownWalk a)) (take (a .kept) list) (ownWalk a) y) y ++ []) []) (λ ks. refl)
             ∙ ap (λ fs. reverseAux fs []) (append-nil ticks)
 
         one-recorded : take K (result .recording) ≡ recordingAfter 0 t ps (reverse ticks)
         unfolding recordings probedEvents flatten
         one-recorded =
             sym (append-nil _)
-            ∙ ap (λ (y : Answer). take (recordedCount (length ps) (ownWalk a) y) (result .recording) ++ []) (sym one-answer)
+            ∙ sym (seen (λ y. take (recordedCount (length ps) (ownWalk a) y) (result .recording) ++ []) (λ ks. refl))
             ∙ one .recording ∙ ap (recordingAfter 0 t ps) one-history
 
         one-kept : drop K (result .recording) ≡ drop K (a .recording)
         unfolding probedEvents
         one-kept =
-            subst (λ (y : Answer). drop (recordedCount (length ps) (ownWalk a) y) (result .recording) ≡ drop (recordedCount (length ps) (ownWalk a) y) (a .recording)) one-answer (one .buffers .0)
+            let e = seen (recordedCount (length ps) (ownWalk a)) (λ ks. refl) in
+            subst (λ (k : ℕ). drop k (result .recording) ≡ drop k (a .recording)) e (one .buffers .0)
 
         one-latest : result .latest ++ drop (a .kept) list ≡ map (wireAfter t (reverse ticks)) ps ++ drop (length ps) list
         unfolding listLeft

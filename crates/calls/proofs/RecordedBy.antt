@@ -13,7 +13,7 @@ use Rattle.word.specs.Limits.{mostProbes}
 use Rattle.word.specs.Tick.{Tick, Each}
 use Rattle.word.proofs.Lists.{first-true, second-true}
 use Rattle.refusal.specs.Answer.{count, refusedAll}
-use Rattle.cells.specs.Block.{ticksOf, blockOk, answered}
+use Rattle.cells.specs.Block.{withoutReport, ticksOf, blockOk, answered}
 use Rattle.arity.specs.Tree.{Tree, ins, outs}
 use Rattle.arity.specs.Nodes.{Complete, subtree, cellsBefore}
 use Rattle.arity.specs.WellFormed.{WellFormed}
@@ -98,10 +98,10 @@ module _ (n : ℕ) (t : Tree) (w : WellFormed t) (c : Complete n t) (xs : List �
       abbrev full : Probed
       full = watches n t ps (a .walk .ticks) (a .walk .inputs) (a .walk .controls) cells (a .walk .outputs) latest (a .recording)
 
-      answers : work a cells latest .ran .answer ≡ probedAnswerTo n t xs a
+      answers : withoutReport (work a cells latest .ran .answer) ≡ probedAnswerTo n t xs a
       unfolding probed probedAnswerTo watches answered
       answers =
-          ap (λ (r : Probed). r .ran .answer) (is-work a cells latest)
+          ap (λ (r : Probed). withoutReport (r .ran .answer)) (is-work a cells latest)
           ∙ rw (cells-lent, list-lent)
           (go (blockOk (ins t) (a .walk .ticks) (a .walk .inputs) (a .walk .controls)) (probesOk n t xs) (leb N (a .walk .lent) and leb (a .walk .ticks * outs t) (length (a .walk .outputs)))
           (leb P (a .kept) and leb (a .walk .ticks * P) (length (a .recording))))
@@ -109,7 +109,7 @@ module _ (n : ℕ) (t : Tree) (w : WellFormed t) (c : Complete n t) (xs : List �
           no : ℕ → Probed
           no x = untouched (refusedAll x) cells (a .walk .outputs) latest (a .recording)
 
-          go : (b d e f : Bool) → pick b (pick d (pick e (pick f full (no 12)) (no 12)) (no 15)) (no 14) .ran .answer
+          go : (b d e f : Bool) → withoutReport (pick b (pick d (pick e (pick f full (no 12)) (no 12)) (no 15)) (no 14) .ran .answer)
               ≡ pick b (pick d (pick (e and f) (count (a .walk .ticks * outs t)) (refusedAll 12)) (refusedAll 15)) (refusedAll 14)
           go true true true true = refl
           go true true true false = refl

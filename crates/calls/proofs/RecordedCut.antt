@@ -11,16 +11,17 @@ use borrow.Author.Tests.{leb-true, le-leb}
 use Rattle.word.specs.Choice.{_and_, pick}
 use Rattle.word.proofs.Lists.{first-true, second-true, both-true}
 use Rattle.word.proofs.Each.{each-append}
-use Rattle.refusal.specs.Answer.{Answer, count, refusedAll}
+use Rattle.refusal.specs.Answer.{count, refusedAll}
 use Rattle.cells.specs.Block.{blockOk}
 use Rattle.cells.specs.Load.{loaded}
+use Rattle.cells.proofs.Calls.{unreported}
 use Rattle.arity.specs.Tree.{Tree, ins, outs}
 use Rattle.arity.specs.Nodes.{Complete, cellsBefore}
 use Rattle.arity.specs.WellFormed.{WellFormed}
 use Rattle.signal.specs.Signal.{History}
 use Rattle.signal.proofs.Wire.{wires-start}
 use Rattle.calls.specs.Probed.{probesOf, probesOk}
-use Rattle.calls.specs.Calls.{Program, answerTo}
+use Rattle.calls.specs.Calls.{Program, Element, answerTo}
 use Rattle.calls.specs.Calls.Element.{own}
 use Rattle.calls.specs.Law.{IsProgramOf, HoldsPast}
 use Rattle.calls.specs.ProbedCalls.{ProbedArguments, ProbedProgram, ProbedElement, ProbedEvent, RefusedIfOtherCall, plainElement, plain, eventWith, blockWith, listWith, probedEvents, blockLeft, listLeft, plainly, OtherCallsRefused, probedAnswerTo, firstProbed, cutProbed}
@@ -115,9 +116,8 @@ module _ (n : ℕ) (t : Tree) (w : WellFormed t) (c : Complete n t) (xs : List �
       let answer = each-after (λ e. ProbedAnswered n t xs (e .element) (e .result .ran .answer)) (probedEvents work at block list before) _
       (rw (events-append work at block list before (ownWalk a ∷ after)) at (r .answers)) .0 in
       plainly-append work at block list before (ownWalk a ∷ after)
-      ∙ ap (λ (y : Answer). plainly work at block list before
-      ++ plainElement (e .call) (e .latest) (ownWalk a) y ∷ plainly work at (blockWith work at b l (ownWalk a)) (listWith work at b l (ownWalk a)) after)
-      (answer ∙ accepted n t xs a p)
+      ∙ ap (λ (x : Element). plainly work at block list before ++ x ∷ plainly work at (blockWith work at b l (ownWalk a)) (listWith work at b l (ownWalk a)) after)
+      (unreported (plainElement (e .call) (e .latest) (ownWalk a)) (λ ks. refl) (e .result .ran .answer) ∙ ap (plainElement (e .call) (e .latest) (ownWalk a)) (answer ∙ accepted n t xs a p))
 
   module _ (u : HoldsPast n t at past block) (v : HoldsLatest t (probesOf xs) past list) (elements : List ProbedElement) (o : OtherCallsRefused work at block list elements) where
     abbrev record-law : (zs : List ProbedElement) → OtherCallsRefused work at block list zs → Recorded n t xs walk work at past block list zs

@@ -9,6 +9,7 @@ use Rattle.word.proofs.Lists.{flatten-last}
 use Rattle.word.proofs.Each.{each-append}
 use Rattle.refusal.specs.Answer.{Answer}
 use Rattle.cells.specs.Block.{ticksOf}
+use Rattle.cells.proofs.Calls.{unreported}
 use Rattle.arity.specs.Tree.{Tree, ins, outs}
 use Rattle.arity.specs.Nodes.{Complete, cellsBefore}
 use Rattle.arity.specs.WellFormed.{WellFormed}
@@ -70,6 +71,7 @@ module _ (n : ℕ) (t : Tree) (w : WellFormed t) (c : Complete n t) (work : Prog
         let x : Element = own (firstTicks (ins t) a j) in
         let answer = each-after (λ e. Answered n t work at (e .element) (e .result .answer)) (events work at block before) _ (rw (events-append work at block before (x ∷ [])) at (lawful-cut j .answers)) .0 in
         history-more work at (ins t) past block before x
+        ∙ unreported (λ (y : Answer). reverseAux (ticksAdded (ins t) x y) (history n t work at past block before)) (λ ks. refl) (eventOf work at (left work at block before) x .result .answer)
         ∙ ap (λ (y : Answer). reverseAux (ticksAdded (ins t) x y) (history n t work at past block before))
         (answer ∙ cut-accepted (ins t) (outs t) (cellsBefore t n) (a .ticks * outs t) a (p .accepted) j h)
 

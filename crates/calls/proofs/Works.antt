@@ -1,12 +1,14 @@
 -- A tick is right: it gives what the meaning says, and leaves the cells as they are to be.
 use Prim.Native.Nat.{ℕ, _≤_}
-use mathlib.Core.Path.{_≡_, refl, sym, ap, _∙_, subst}
+use mathlib.Core.Path.{_≡_, refl, sym, ap, ap₂, _∙_, subst}
 use mathlib.Core.Bool.{Bool, true, false}
 use mathlib.Core.Logic.{inl, inr}
 use mathlib.Core.List.{List, [], _∷_, _++_, map}
 use lib.ListN.{length, getD, drop, take}
 use lib.Seq.{length-take-le}
+use Rattle.word.specs.Choice.{_or_}
 use Rattle.word.specs.Tick.{Beam, Tick, tick, Stepped, stepped, headOr, tailOf, zeros}
+use Rattle.word.proofs.Lists.{or-either-way}
 use Rattle.cells.specs.Cells.{part, store}
 use Rattle.cells.proofs.Parts.{Stored, stores}
 use Rattle.arity.specs.Tree.{Tree, Composition, ins, outs, size}
@@ -18,6 +20,7 @@ use Rattle.arity.specs.WellFormed.{WellFormed}
 use Rattle.signal.specs.Signal.{History, wire, rewire, fill, sums, demanded, demands, signal, loop}
 use Rattle.signal.specs.History.{loopRight, loopLeft, leftHistory, rightHistory}
 use Rattle.signal.specs.Wire.{Probe, wireAfter}
+use Rattle.signal.specs.Clips.{clips}
 use Rattle.signal.specs.Contents.{contents}
 use Rattle.signal.proofs.Causal.{causal, width, wire-next, map-next, beside-head, late-first, head-any, loop-right-next, loop-left-next, loop-left, loop-causal}
 use Rattle.calls.specs.Step.{step}
@@ -26,13 +29,14 @@ use Rattle.calls.proofs.Holds.{Owned, Placed, Holds, frame}
 use Rattle.calls.proofs.Ring.{delay-reads, delay-moves}
 use Rattle.calls.proofs.Shows.{ShowsBy, left-alone, leaf-shows, join-shows, demand-shows}
 
--- what a tick of t is to leave: the outputs, the cells of t, the other cells, how many there are, and what a probe shows
+-- what a tick of t is to leave: the outputs, the cells of t, the other cells, how many there are, what a probe shows, and whether a delay was clipped
 pub record Right (base : ℕ → ℕ) (t : Tree) (h : History) (f : Tick) (cs : List ℕ) (s : Stepped) : Type 0 where
   pub outputs : s .outputs ≡ headOr [] (signal t (f ∷ h))
   pub holds : Holds base t (f ∷ h) (s .cells)
   pub same : (k : ℕ) → (Owned base t k → ⊥) → getD (s .cells) k 0 ≡ getD cs k 0
   pub long : length (s .cells) ≡ length cs
   pub shows : ShowsBy t h f (shown base t f cs)
+  pub clipped : s .clipped ≡ clips t (f ∷ h)
 
 abbrev pub Works : (ℕ → ℕ) → Tree → Type 0
 Works base t = (h : History) (f : Tick) (cs : List ℕ) → Placed base (length cs) t → Holds base t h cs → Right base t h f cs (step base t f cs)
@@ -47,6 +51,8 @@ record Both (base : ℕ → ℕ) (l r : Tree) (hl hr : History) (fl fr : Tick) (
   long : length (b .cells) ≡ length cs
   shows-first : ShowsBy l hl fl (shown base l fl cs)
   shows-second : ShowsBy r hr fr (shown base r fr (a .cells))
+  clips-first : a .clipped ≡ clips l (fl ∷ hl)
+  clips-second : b .clipped ≡ clips r (fr ∷ hr)
 
 both : (base : ℕ → ℕ) (l r : Tree) → Works base l → Works base r → Apart (Owned base l) (Owned base r)
     → (hl hr : History) (fl fr : Tick) (cs : List ℕ) → Placed base (length cs) l → Placed base (length cs) r → Holds base l hl cs → Holds base r hr cs
@@ -65,6 +71,8 @@ both base l r wl wr ap′ hl hr fl fr cs pl pr ul ur =
       long = b .long ∙ a .long;
       shows-first = a .shows;
       shows-second = b .shows;
+      clips-first = a .clipped;
+      clips-second = b .clipped;
     }
 
 -- a composition with no cells of its own
@@ -75,8 +83,8 @@ joined : (base : ℕ → ℕ) (i : ℕ) (c : Composition) (l r : Tree) (h : Hist
     → part (base i) (size (join i c l r)) (b .cells) ≡ contents (join i c l r) (f ∷ h)
     → (y : Beam) → y ≡ headOr [] (signal (join i c l r) (f ∷ h))
     → ((p : Probe) (v : ℕ) → shown base (join i c l r) f cs p v ≡ noted i y p (shown base r fr (a .cells) p (shown base l fl cs p v)))
-    → Right base (join i c l r) h f cs (stepped y (b .cells))
-unfolding Holds Owned Distinct
+    → Right base (join i c l r) h f cs (stepped y (b .cells) (a .clipped or b .clipped))
+unfolding Holds Owned Distinct clips
 joined base i c l r h f fl fr cs a b w el er own y ey es =
     record {
       outputs = ey;
@@ -87,6 +95,7 @@ joined base i c l r h f fl fr cs a b w el er own y ey es =
           (λ p d m. ap (shown base r fr (a .cells) p) (w .shows-first p (d .0) m ∙ ap (λ H. wireAfter l H p) el) ∙ left-alone base r p (λ o. d .4 (p .node) m o) fr (a .cells) _)
           (λ p d m. ap (shown base r fr (a .cells) p) (left-alone base l p (λ o. d .4 (p .node) o m) fl cs _) ∙ w .shows-second p (d .1) m ∙ ap (λ H. wireAfter r H p) er)
           p d m;
+      clipped = ap₂ _or_ (w .clips-first ∙ ap (clips l) el) (w .clips-second ∙ ap (clips r) er);
     }
 
 sequence-works : (base : ℕ → ℕ) (i : ℕ) (l r : Tree) → Works base l → Works base r → Works base (join i sequence l r)
@@ -134,8 +143,8 @@ merge-works base i l r wl wr h f cs p u =
 called : (base : ℕ → ℕ) (i : ℕ) (b : Tree) → Works base b
     → (h : History) (f : Tick) (cs : List ℕ) → Placed base (length cs) (ondemand i b) → Holds base (ondemand i b) h cs
     → (a : Stepped) → step base b (tick (tailOf (f .inputs)) (f .controls)) cs ≡ a → demanded f ≡ true
-    → Right base (ondemand i b) h f cs (stepped (part (base i) (outs b) (store (base i) (a .outputs) (a .cells))) (store (base i) (a .outputs) (a .cells)))
-unfolding step shown Holds Placed Owned size contents
+    → Right base (ondemand i b) h f cs (stepped (part (base i) (outs b) (store (base i) (a .outputs) (a .cells))) (store (base i) (a .outputs) (a .cells)) (a .clipped))
+unfolding step shown Holds Placed Owned size contents clips
 called base i b wb h f cs p u a ea e =
     let g : Tick = tick (tailOf (f .inputs)) (f .controls) in
     let ra : Right base b (demands h) g cs a = rw ea at (wb (demands h) g cs (p .1) (u .1)) in
@@ -152,11 +161,12 @@ called base i b wb h f cs p u a ea e =
       same = λ k n. s .other k (λ o. n (inl o)) ∙ ra .same k (λ o. n (inr o));
       long = s .long ∙ ra .long;
       shows = λ q d m. es q _ ∙ demand-shows i b h f y (shown base b g cs) (s .own ∙ ey) (λ q d m. ra .shows q d m ∙ ap (λ H. wireAfter b H q) eh) q d m;
+      clipped = ra .clipped ∙ ap (clips b) eh ∙ rw e;
     }
 
 held : (base : ℕ → ℕ) (i : ℕ) (b : Tree) (h : History) (f : Tick) (cs : List ℕ) → Holds base (ondemand i b) h cs → demanded f ≡ false
-    → Right base (ondemand i b) h f cs (stepped (part (base i) (outs b) cs) cs)
-unfolding step shown Holds size contents
+    → Right base (ondemand i b) h f cs (stepped (part (base i) (outs b) cs) cs false)
+unfolding step shown Holds size contents clips
 held base i b h f cs u e =
     let eh : demands h ≡ demands (f ∷ h) = rw e in
     let ey : part (base i) (outs b) cs ≡ headOr (zeros (outs b)) (signal b (demands (f ∷ h))) =
@@ -169,6 +179,7 @@ held base i b h f cs u e =
       same = λ k n. refl;
       long = refl;
       shows = λ q d m. es q _ ∙ demand-shows i b h f y (λ q v. v) ey (λ q d m. ap (λ H. wireAfter b H q) eh) q d m;
+      clipped = rw e;
     }
 
 demand-works : (base : ℕ → ℕ) (i : ℕ) (b : Tree) → Works base b
@@ -179,7 +190,7 @@ demand-works base i b wb h f cs p u true e = rw e (called base i b wb h f cs p u
 demand-works base i b wb h f cs p u false e = rw e (held base i b h f cs u e)
 
 recursion-works : (base : ℕ → ℕ) (i : ℕ) (l r : Tree) → ins r ≤ outs l → Works base l → Works base r → Works base (join i recursion l r)
-unfolding step shown Holds Placed Owned size contents leftHistory rightHistory Distinct
+unfolding step shown Holds Placed Owned size contents leftHistory rightHistory Distinct clips
 recursion-works base i l r q wl wr h f cs p u =
     let xs : Beam = part (base i) (ins r) cs in
     let fr : Tick = tick xs (f .controls) in
@@ -208,19 +219,20 @@ recursion-works base i l r q wl wr h f cs p u =
       shows = join-shows i recursion l r h f (b .outputs) (λ p v. shown base l fl (a .cells) p (shown base r fr cs p v)) ey
           (λ p d m. ap (shown base l fl (a .cells) p) (left-alone base r p (λ o. d .4 (p .node) m o) fr cs _) ∙ w .shows-second p (d .0) m ∙ ap (λ H. wireAfter l H p) el)
           (λ p d m. ap (shown base l fl (a .cells) p) (w .shows-first p (d .1) m ∙ ap (λ H. wireAfter r H p) er) ∙ left-alone base l p (λ o. d .4 (p .node) o m) fl (a .cells) _);
+      clipped = ap₂ _or_ (w .clips-first ∙ ap (clips r) er) (w .clips-second ∙ ap (clips l) el) ∙ or-either-way (clips r _) (clips l _);
     }
 
 pub works : (base : ℕ → ℕ) (t : Tree) → WellFormed t → Works base t
-unfolding step shown WellFormed Holds Placed size contents Owned
-works base (leaf i (number v)) w h f cs p u = record { outputs = refl; holds = refl; same = λ k n. refl; long = refl; shows = leaf-shows i (number v) h f _ refl }
-works base (leaf i (control s)) w h f cs p u = record { outputs = refl; holds = refl; same = λ k n. refl; long = refl; shows = leaf-shows i (control s) h f _ refl }
-works base (leaf i (operation o)) w h f cs p u = record { outputs = refl; holds = refl; same = λ k n. refl; long = refl; shows = leaf-shows i (operation o) h f _ refl }
+unfolding step shown WellFormed Holds Placed size contents Owned clips
+works base (leaf i (number v)) w h f cs p u = record { outputs = refl; holds = refl; same = λ k n. refl; long = refl; shows = leaf-shows i (number v) h f _ refl; clipped = refl }
+works base (leaf i (control s)) w h f cs p u = record { outputs = refl; holds = refl; same = λ k n. refl; long = refl; shows = leaf-shows i (control s) h f _ refl; clipped = refl }
+works base (leaf i (operation o)) w h f cs p u = record { outputs = refl; holds = refl; same = λ k n. refl; long = refl; shows = leaf-shows i (operation o) h f _ refl; clipped = refl }
 works base (leaf i (delay d)) w h f cs p u =
     let s = delay-moves (base i) d h f cs p u in
     let e = ap {B = Beam} (λ y. y ∷ []) (delay-reads (base i) d h f (getD (f .inputs) 1 0) cs u) in
-    record { outputs = e; holds = s .own; same = s .other; long = s .long; shows = leaf-shows i (delay d) h f _ e }
-works base (leaf i cable) w h f cs p u = record { outputs = refl; holds = refl; same = λ k n. refl; long = refl; shows = leaf-shows i cable h f _ refl }
-works base (leaf i cut) w h f cs p u = record { outputs = refl; holds = refl; same = λ k n. refl; long = refl; shows = leaf-shows i cut h f _ refl }
+    record { outputs = e; holds = s .own; same = s .other; long = s .long; shows = leaf-shows i (delay d) h f _ e; clipped = refl }
+works base (leaf i cable) w h f cs p u = record { outputs = refl; holds = refl; same = λ k n. refl; long = refl; shows = leaf-shows i cable h f _ refl; clipped = refl }
+works base (leaf i cut) w h f cs p u = record { outputs = refl; holds = refl; same = λ k n. refl; long = refl; shows = leaf-shows i cut h f _ refl; clipped = refl }
 works base (join i sequence l r) w h f cs p u = sequence-works base i l r (works base l (w .0)) (works base r (w .1)) h f cs p u
 works base (join i parallel l r) w h f cs p u = parallel-works base i l r (works base l (w .0)) (works base r (w .1)) h f cs p u
 works base (join i split l r) w h f cs p u = split-works base i l r (works base l (w .0)) (works base r (w .1)) h f cs p u

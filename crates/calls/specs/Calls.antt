@@ -1,5 +1,5 @@
 -- A list of calls on one block of cells, each lent a part of it as the last left it.
-use Prim.Native.Nat.{ℕ, _*_}
+use Prim.Native.Nat.{ℕ, _+_, _*_}
 use mathlib.Core.Path.{_≡_}
 use mathlib.Core.List.{List, [], _∷_, _++_, map, reverseAux, flatten}
 use lib.IntN.{ℤ}
@@ -9,7 +9,7 @@ use Rattle.word.specs.Choice.{pick, _and_}
 use Rattle.word.specs.Tick.{Tick, tick, Each}
 use Rattle.refusal.specs.Answer.{Answer, count, refusedAll}
 use Rattle.refusal.specs.Answer.Answer.{counts, refused}
-use Rattle.cells.specs.Block.{Ran, unchanged, counted, ticksOf, blockOk}
+use Rattle.cells.specs.Block.{Ran, unchanged, counted, reportOf, ticksOf, blockOk}
 use Rattle.signal.specs.Signal.{History}
 
 -- a call of any kind: which part of the block it is lent, its output buffer, and its complete result, whatever the lent cells hold
@@ -107,11 +107,16 @@ module _ (work : Program) (at : ℕ) where
   unfolding events flatten
   written block xs = flatten (map writtenBy (events block xs))
 
+  -- the sum of what its calls reported
+  unfoldable pub reported : List ℕ → List Element → ℕ
+  reported block [] = 0
+  reported block (x ∷ xs) = reportOf (resultOf (callOf x) block .answer) + reported (blockAfter (callOf x) block) xs
+
   unfoldable pub OthersRefused : List ℕ → List Element → Type 0
   unfolding events
   OthersRefused block xs = Each (λ e. RefusedIfOther (e .element) (e .given)) (events block xs)
 
--- "refused exactly where row 14 or 12 says so", else the count of its samples: the answer of a circuit with n inputs, m outputs and k cells
+-- "refused exactly where row 14 or 12 says so", else the count of its samples: the answer, apart from its report, of a circuit with n inputs, m outputs and k cells
 unfoldable pub answerTo : (n m k : ℕ) → Arguments → Answer
 answerTo n m k a =
     pick (blockOk n (a .ticks) (a .inputs) (a .controls))

@@ -9,16 +9,17 @@ use Rattle.word.specs.Tick.{Beam, Each, headOr, zeros}
 use Rattle.refusal.specs.Answer.{Answer, count}
 use Rattle.refusal.specs.Answer.Answer.{refused}
 use Rattle.cells.specs.Cells.{part}
-use Rattle.cells.specs.Block.{unchanged, counted, called}
+use Rattle.cells.specs.Block.{unchanged, counted, withoutReport, called}
 use Rattle.arity.specs.Tree.{Tree, ins, outs, size}
 use Rattle.arity.specs.Tree.Tree.{ondemand}
 use Rattle.arity.specs.Nodes.{Numbered, subtree, cellsBefore}
 use Rattle.signal.specs.Signal.{History, signal, demands}
 use Rattle.signal.specs.History.{own as ownHistory, NoDemand}
+use Rattle.signal.specs.Clips.{clippedTicks}
 use Rattle.signal.specs.Contents.{cellsAfter}
 use Rattle.calls.specs.Step.{step}
 use Rattle.calls.specs.Calls as calls
-use Rattle.calls.specs.Calls.{Arguments, Element, Event, Program, bufferOf, events, left, written, OthersRefused, answerTo, tickOf, firstTicks}
+use Rattle.calls.specs.Calls.{Arguments, Element, Event, Program, bufferOf, events, left, written, reported, OthersRefused, answerTo, tickOf, firstTicks}
 use Rattle.calls.specs.Calls.Element.{own, other}
 
 -- "a refused one .. writes nothing": the cells that it was lent and its output buffer are as they were
@@ -40,12 +41,12 @@ latestOutputs t i b h = headOr (zeros (outs b)) (signal (ondemand i b) (ownHisto
 
 -- the circuit t of n nodes, whose program is `work`; its cells stand in the block from `at` on
 module _ (n : ℕ) (t : Tree) (work : Program) (at : ℕ) where
-  -- the answer that the document gives a call of the program
+  -- the answer that the document gives a call of the program, apart from its report
   abbrev pub answerOf : Arguments → Answer
   answerOf a = answerTo (ins t) (outs t) (cellsBefore t n) a
 
   abbrev pub Answered : Element → Answer → Type 0
-  Answered (own a) answer = answer ≡ answerOf a
+  Answered (own a) answer = withoutReport answer ≡ answerOf a
   Answered (other c) answer = Unit {0}
 
   -- the cells of node k after the list
@@ -75,6 +76,8 @@ module _ (n : ℕ) (t : Tree) (work : Program) (at : ℕ) where
       pub buffers : Each KeptRest (events work at block list)
       -- "the samples that its accepted runs wrote are, in order, exactly those of the same meaning over all inputs and controls of these runs"
       pub meaning : written work at block list ≡ samplesAfter (length past) t (history block list)
+      -- E6: what the accepted runs reported adds up "to the meaning's number over all their ticks"; a past, where there is one, has its own
+      pub reports : clippedTicks t past + reported work at block list ≡ clippedTicks t (history block list)
       -- "each cell then holds exactly what the document gives for it after these ticks"; the cells before and behind those of the circuit are as they were
       pub cells : left work at block list ≡ take at block ++ (cellsAfter n t (history block list) ++ drop (cellsBefore t n) (drop at block))
 

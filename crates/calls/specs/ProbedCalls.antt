@@ -133,7 +133,7 @@ module _ (work : ProbedProgram) (at : ℕ) where
   unfolding probedEvents
   OtherCallsRefused block list xs = Each (λ e. RefusedIfOtherCall e (e .element)) (probedEvents block list xs)
 
--- the answer to a walk with the probes xs: rows 14, 15 and 12, else the count of its samples
+-- the answer to a walk with the probes xs, apart from its report: rows 14, 15 and 12, else the count of its samples
 unfoldable pub probedAnswerTo : ℕ → Tree → List ℕ → ProbedArguments → Answer
 probedAnswerTo n t xs a =
     let w = a .walk in

@@ -7,6 +7,7 @@ use lib.ListN.{length, drop, take}
 use Rattle.word.specs.Tick.{Each, zeros}
 use Rattle.refusal.specs.Answer.{Answer, count}
 use Rattle.refusal.specs.Answer.Answer.{refused}
+use Rattle.cells.specs.Block.{withoutReport}
 use Rattle.cells.specs.Load.{loaded}
 use Rattle.arity.specs.Tree.{Tree, ins, outs}
 use Rattle.signal.specs.Signal.{History}
@@ -38,9 +39,9 @@ recordingAfter k t ps h = flatten (drop k (reverse (watched t ps h)))
 abbrev pub HoldsLatest : Tree → List Probe → History → List ℕ → Type 0
 HoldsLatest t ps past list = take (length ps) list ≡ map (wireAfter t past) ps
 
--- "Refusal 15 .. is checked after 14 and before 12": the answer to a walk with the probes xs
+-- "Refusal 15 .. is checked after 14 and before 12": the answer to a walk with the probes xs, apart from its report
 abbrev pub ProbedAnswered : ℕ → Tree → List ℕ → ProbedElement → Answer → Type 0
-ProbedAnswered n t xs (ownWalk a) answer = answer ≡ probedAnswerTo n t xs a
+ProbedAnswered n t xs (ownWalk a) answer = withoutReport answer ≡ probedAnswerTo n t xs a
 ProbedAnswered n t xs (otherCall c) answer = Unit {0}
 
 -- the list has the accepted walk a after the calls `before`
