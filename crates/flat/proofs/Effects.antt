@@ -1,15 +1,17 @@
 -- The effect of an instruction of each kind, and of instructions one after another.
 use Prim.Native.Nat.{ℕ, suc, _<_}
-use mathlib.Core.Path.{_≡_, refl, ap, ap₂, _∙_}
+use mathlib.Core.Path.{_≡_, refl, sym, ap, ap₂, _∙_}
+use mathlib.Core.Bool.{false}
 use mathlib.Core.List.{List, [], _∷_, _++_, append-assoc, append-nil}
 use borrow.Author.Tests.{lt-ltb}
 use lib.ListN.{length, getD, set}
-use Rattle.word.specs.Choice.{pick}
+use Rattle.word.specs.Choice.{_or_, pick}
 use Rattle.word.specs.Operation.{operate, operands, operand, add, demand}
 use Rattle.word.specs.Tick.{zeros}
+use Rattle.word.proofs.Lists.{or-assoc}
 use Rattle.word.proofs.OperandCounts.{reads-its-own}
 use Rattle.cells.specs.Delay.{delayed, moved}
-use Rattle.flat.specs.Flat.{Instruction, Machine, machine, Effect, effect, worked, execute, execute1}
+use Rattle.flat.specs.Flat.{Instruction, Machine, machine, Effect, effect, worked, execute, execute1, workedClips, actedClips, executeClips}
 use Rattle.flat.specs.Instructions as flat
 
 module _ (controls : List ℕ) where
@@ -66,6 +68,21 @@ module _ (controls : List ℕ) where
   unfolding execute
   execute-skipped x xs ρ cs s = refl
 
+  -- whether a delay was clipped, one instruction on: a skipped one adds nothing
+  pub clips-none : (m : Machine) → executeClips controls [] m ≡ false
+  unfolding executeClips
+  clips-none m = refl
+
+  pub clips-first : (x : Instruction) (xs : List Instruction) (ρ cs cs′ : List ℕ) (v s : ℕ) → worked controls x ρ cs ≡ effect v s cs′
+      → executeClips controls (x ∷ xs) (machine ρ 0 cs) ≡ workedClips x ρ or executeClips controls xs (machine (ρ ++ (v ∷ [])) s cs′)
+  unfolding executeClips
+  clips-first x xs ρ cs cs′ v s e = ap (λ (f : Effect). workedClips x ρ or executeClips controls xs (machine (ρ ++ (f .value ∷ [])) (f .skip) (f .cells))) e
+
+  pub clips-skipped : (x : Instruction) (xs : List Instruction) (ρ cs : List ℕ) (s : ℕ)
+      → executeClips controls (x ∷ xs) (machine ρ (suc s) cs) ≡ executeClips controls xs (machine (ρ ++ (0 ∷ [])) s cs)
+  unfolding executeClips
+  clips-skipped x xs ρ cs s = refl
+
   pub execute-append : (xs ys : List Instruction) (m : Machine) → execute controls (xs ++ ys) m ≡ execute controls ys (execute controls xs m)
   unfolding execute
   execute-append [] ys m = refl
@@ -76,3 +93,15 @@ module _ (controls : List ℕ) where
   unfolding execute
   execute-all-skipped [] ρ cs = rw append-nil
   execute-all-skipped (x ∷ xs) ρ cs = execute-all-skipped xs (ρ ++ (0 ∷ [])) cs ∙ rw append-assoc
+
+  pub clips-append : (xs ys : List Instruction) (m : Machine) → executeClips controls (xs ++ ys) m ≡ (executeClips controls xs m or executeClips controls ys (execute controls xs m))
+  unfolding execute executeClips
+  clips-append [] ys m = refl
+  clips-append (x ∷ xs) ys m =
+      ap (λ b. actedClips x (m .registers) (m .skip) or b) (clips-append xs ys (execute1 controls x m))
+      ∙ sym (or-assoc (actedClips x (m .registers) (m .skip)) (executeClips controls xs (execute1 controls x m)) _)
+
+  pub clips-all-skipped : (xs : List Instruction) (ρ cs : List ℕ) → executeClips controls xs (machine ρ (length xs) cs) ≡ false
+  unfolding executeClips
+  clips-all-skipped [] ρ cs = refl
+  clips-all-skipped (x ∷ xs) ρ cs = clips-all-skipped xs (ρ ++ (0 ∷ [])) cs

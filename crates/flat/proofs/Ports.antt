@@ -1,7 +1,7 @@
 -- Inputs into the registers, outputs out of them, and the tick between.
 use Prim.Native.Nat.{ℕ, _+_, _≤_, _<_}
 use mathlib.Core.Path.{_≡_, refl, sym, ap, ap₂, _∙_}
-use mathlib.Core.Bool.{true}
+use mathlib.Core.Bool.{Bool, true}
 use mathlib.Core.List.{List, [], _∷_, _++_, append-assoc, append-nil}
 use native.Mathlib.Nat.{add-zero}
 use native.Mathlib.Numerals.{add-one}
@@ -13,7 +13,7 @@ use lib.Seq.{take-suc, take-suc-set, drop-cons, getD-take, take-all}
 use Rattle.word.specs.Choice.{_and_}
 use Rattle.word.specs.Tick.{tick, stepped}
 use Rattle.word.proofs.Lists.{first-true, second-true, both-true}
-use Rattle.flat.specs.Flat.{machine, execute, held}
+use Rattle.flat.specs.Flat.{Machine, machine, execute, executeClips, held}
 use Rattle.flat.specs.Code.{header, resultsAt, mostRegisters, instructionsOf, inputCount, outputCount, instructionCount, decode, codeTick}
 use Rattle.flat.specs.Check.{allBelow}
 use Rattle.flat.specs.Steps.{Checked}
@@ -74,15 +74,18 @@ gathered code from ρ ys i g h l =
 decoded-tick : (code xs controls cs : List ℕ) → codeTick (decode code) (tick xs controls) cs
     ≡ stepped (held (execute controls (instructionsOf (instructionCount code) (drop header code)) (machine xs 0 cs) .registers) (take (outputCount code) (drop (resultsAt (instructionCount code)) code)))
     (execute controls (instructionsOf (instructionCount code) (drop header code)) (machine xs 0 cs) .cells)
+    (executeClips controls (instructionsOf (instructionCount code) (drop header code)) (machine xs 0 cs))
 unfolding decode codeTick
 decoded-tick code xs controls cs = refl
 
 -- inputs put, instructions executed, outputs gathered: a tick
-pub ticked : (code xs controls cs ρ₁ ρ₂ cs₂ ys : List ℕ) → Checked code → take (inputCount code) ρ₁ ≡ xs
+pub ticked : (code xs controls cs ρ₁ ρ₂ cs₂ ys : List ℕ) (clipped : Bool) → Checked code → take (inputCount code) ρ₁ ≡ xs
     → execute controls (instructionsOf (instructionCount code) (drop header code)) (machine (take (inputCount code) ρ₁) 0 cs) ≡ machine (take (inputCount code + instructionCount code) ρ₂) 0 cs₂
     → ys ≡ held ρ₂ (drop (resultsAt (instructionCount code)) code)
-    → codeTick (decode code) (tick xs controls) cs ≡ stepped ys cs₂
-ticked code xs controls cs ρ₁ ρ₂ cs₂ ys k e m q =
-    decoded-tick code xs controls cs
-    ∙ ap₂ (λ k rs. stepped (held (k .registers) rs) (k .cells)) (ap (λ l. execute controls (instructionsOf (instructionCount code) (drop header code)) (machine l 0 cs)) (sym e) ∙ m) (results-all code (k .head))
-    ∙ ap (λ l. stepped l cs₂) (held-below ρ₂ (drop (resultsAt (instructionCount code)) code) (inputCount code + instructionCount code) (code-results code (k .ok)) ∙ sym q)
+    → clipped ≡ executeClips controls (instructionsOf (instructionCount code) (drop header code)) (machine (take (inputCount code) ρ₁) 0 cs)
+    → codeTick (decode code) (tick xs controls) cs ≡ stepped ys cs₂ clipped
+ticked code xs controls cs ρ₁ ρ₂ cs₂ ys clipped k e m q c =
+    ap (λ l. codeTick (decode code) (tick l controls) cs) (sym e)
+    ∙ decoded-tick code (take (inputCount code) ρ₁) controls cs
+    ∙ ap₂ (λ (m : Machine) rs. stepped (held (m .registers) rs) (m .cells) (executeClips controls (instructionsOf (instructionCount code) (drop header code)) (machine (take (inputCount code) ρ₁) 0 cs))) m (results-all code (k .head))
+    ∙ ap₂ (λ l b. stepped l cs₂ b) (held-below ρ₂ (drop (resultsAt (instructionCount code)) code) (inputCount code + instructionCount code) (code-results code (k .ok)) ∙ sym q) (sym c)

@@ -6,9 +6,9 @@ use mathlib.Core.List.{List, _++_}
 use native.Mathlib.Omega.{arith}
 use lib.ListN.{length, take, drop, length-drop}
 use lib.Seq.{length-take-le}
-use Rattle.word.specs.Tick.{Tick, Stepped, stepped}
-use Rattle.refusal.specs.Answer.{count, refusedAll}
-use Rattle.cells.specs.Block.{ranAs, ticksOf, played, blockOk, called}
+use Rattle.word.specs.Tick.{Tick, Stepped}
+use Rattle.refusal.specs.Answer.{refusedAll}
+use Rattle.cells.specs.Block.{withReport, ranAs, ticksOf, playedAs, played, blockOk, called}
 use Rattle.cells.proofs.Calls as calls
 use Rattle.cells.proofs.Calls.{few, Block, block-says}
 use Rattle.flat.specs.Code.{resultsAt, decode, codeTick, inputCount, outputCount, instructionCount, cellCount}
@@ -68,9 +68,9 @@ module _ (code : List ℕ) (w : Checked code) (ticks : ℕ) (inputs controls cel
       pub outputs-short : length outputs < t * m → ranAs (refusedAll 12) cells outputs ≡ checks (decode code) ticks inputs controls cells outputs
       outputs-short d = calls.outputs-short g (inputCount code) (outputCount code) (cellCount code) ticks inputs controls cells outputs block (rw ek at c) (rw (et, em) at d) ∙ opened
 
-      pub accepted : t * m ≤ length outputs → (ys cs : List ℕ)
-          → played (codeTick (decode code)) (ticksOf (inputCount code) controls t inputs) (take k cells) ≡ stepped ys cs
-          → ranAs (count (t * m)) (cs ++ drop k cells) (ys ++ drop (t * m) outputs) ≡ checks (decode code) ticks inputs controls cells outputs
-      accepted d ys cs e =
+      pub accepted : t * m ≤ length outputs → (ys cs : List ℕ) (clips : ℕ)
+          → played (codeTick (decode code)) (ticksOf (inputCount code) controls t inputs) (take k cells) ≡ playedAs ys cs clips
+          → ranAs (withReport (t * m) clips) (cs ++ drop k cells) (ys ++ drop (t * m) outputs) ≡ checks (decode code) ticks inputs controls cells outputs
+      accepted d ys cs clips e =
           rw (ek, et, em)
-          (calls.accepted g (inputCount code) (outputCount code) (cellCount code) ticks inputs controls cells outputs block (rw ek at c) (rw (et, em) at d) ys cs (rw (et, ek) at e) ∙ opened)
+          (calls.accepted g (inputCount code) (outputCount code) (cellCount code) ticks inputs controls cells outputs block (rw ek at c) (rw (et, em) at d) ys cs clips (rw (et, ek) at e) ∙ opened)

@@ -8,12 +8,13 @@ use borrow.Author.Tests.{leb-true, eqb-true, ltb-true, ltb-false, lt-ltb, le-ltb
 use lib.Dec.{eqb, leb, ltb}
 use lib.ListN.{length, getD, take}
 use lib.Seq.{getD-take}
-use Rattle.word.specs.Choice.{_and_, pick}
+use Rattle.word.specs.Choice.{_and_, _or_, pick}
+use Rattle.word.specs.Word.{clipped}
 use Rattle.word.specs.Operation.{operate, operandTable, operands, demand}
 use Rattle.word.specs.Tick.{Each}
-use Rattle.word.proofs.Lists.{first-true, second-true}
+use Rattle.word.proofs.Lists.{first-true, second-true, or-first}
 use Rattle.word.proofs.OperandCounts.{in-table, reads-its-own}
-use Rattle.flat.specs.Flat.{Instruction, effect, worked}
+use Rattle.flat.specs.Flat.{Instruction, effect, worked, workedClips}
 use Rattle.flat.specs.Check.{unused, inputOk, instructionOk}
 use Rattle.flat.specs.Steps.{Workable}
 use Rattle.flat.proofs.Decoded.{two, four}
@@ -128,6 +129,13 @@ works-below cells end r controls x ρ cs h = go refl (row cells end r x h)
     go e write = rw (e, getD-take r ρ (x .b) 0 (says6 cells end r x h e .1))
     go e skip = rw (e, getD-take r ρ (x .a) 0 (says7 cells end r x h e .0))
 
+pub clips-below : (cells end r : ℕ) (x : Instruction) (ρ : List ℕ) → instructionOk cells end r x ≡ true → workedClips x (take r ρ) ≡ workedClips x ρ
+clips-below cells end r x ρ h = go (eqb (x .code) 4) refl
+  where
+    go : (t : Bool) → eqb (x .code) 4 ≡ t → t and clipped (getD (take r ρ) (x .b) 0) (x .d) ≡ t and clipped (getD ρ (x .b) 0) (x .d)
+    go true e = ap (λ v. clipped v (x .d)) (getD-take r ρ (x .b) 0 (says4 cells end r x h (eqb-true (x .code) 4 e) .1 .0))
+    go false e = refl
+
 -- not "past the end": what it skips lies before the end
 pub skips-inside : (cells end r : ℕ) (controls : List ℕ) (x : Instruction) (ρ cs : List ℕ) → instructionOk cells end r x ≡ true → r < end → r + (1 + worked controls x ρ cs .skip) ≤ end
 unfolding worked
@@ -212,6 +220,10 @@ module _ {key : ℕ} {x : Instruction} {controls ρ cs : List ℕ} (w : Workable
   pub skip-left : {A : Type 0} → Rest A key → x .code ≡ 7
   skip-left {A} n = key-left (x .a) its-row (says-op _ _ _ _ (w .ok)) (subst (Rest A) (w .keyed) n)
 
+  -- what is no delay is not clipped
+  pub untold : {k : ℕ} {told : Bool} → x .code ≡ k → eqb k 4 ≡ false → told ≡ told or workedClips x ρ
+  untold {told = told} e n = or-first told _ (rw (e, n))
+
   module _ (j : ℕ) (e : key ≡ 8 + j) where
     named : (x .b < length ρ) × ((x .c < length ρ) × (x .e < length ρ))
     named = let s = says3 _ _ _ _ (w .ok) (op-is j e .0) in (omega (arith, s .0, w .room), (omega (arith, s .1 .0, w .room), omega (arith, s .1 .1, w .room)))
@@ -223,15 +235,17 @@ module _ {key : ℕ} {x : Instruction} {controls ρ cs : List ℕ} (w : Workable
     third-there = named .1 .1
 
     -- with the third register's number t; of an operation that has no third input, with 0
-    op-works : {v s t : ℕ} → (2 < operands (1 + j) → t ≡ getD ρ (x .e) 0) → (v ≡ operate (1 + j) (getD ρ (x .b) 0) (getD ρ (x .c) 0) t) × (s ≡ 0)
-        → worked controls x ρ cs ≡ effect v s cs
+    op-works : {v s t : ℕ} {told : Bool} → (2 < operands (1 + j) → t ≡ getD ρ (x .e) 0) → (v ≡ operate (1 + j) (getD ρ (x .b) 0) (getD ρ (x .c) 0) t) × (s ≡ 0)
+        → (worked controls x ρ cs ≡ effect v s cs) × (told ≡ told or workedClips x ρ)
     unfolding worked
-    op-works g h = let o = op-is j e in rw (o .0, o .1, h .0, h .1) (ap (λ (v : ℕ). effect v 0 cs) (sym (reads-its-own (1 + j) _ (λ l. refl) g)))
+    op-works g h = let o = op-is j e in (rw (o .0, o .1, h .0, h .1) (ap (λ (v : ℕ). effect v 0 cs) (sym (reads-its-own (1 + j) _ (λ l. refl) g))), untold (o .0) refl)
 
-    pub two-work : {v s : ℕ} → ltb 2 (operands (1 + j)) ≡ false → (v ≡ operate (1 + j) (getD ρ (x .b) 0) (getD ρ (x .c) 0) 0) × (s ≡ 0) → worked controls x ρ cs ≡ effect v s cs
+    pub two-work : {v s : ℕ} {told : Bool} → ltb 2 (operands (1 + j)) ≡ false → (v ≡ operate (1 + j) (getD ρ (x .b) 0) (getD ρ (x .c) 0) 0) × (s ≡ 0)
+        → (worked controls x ρ cs ≡ effect v s cs) × (told ≡ told or workedClips x ρ)
     two-work f = op-works (λ l. omega (arith, ltb-false 2 (operands (1 + j)) f))
 
-    pub three-work : {v s t : ℕ} → t ≡ getD ρ (x .e) 0 → (v ≡ operate (1 + j) (getD ρ (x .b) 0) (getD ρ (x .c) 0) t) × (s ≡ 0) → worked controls x ρ cs ≡ effect v s cs
+    pub three-work : {v s t : ℕ} {told : Bool} → t ≡ getD ρ (x .e) 0 → (v ≡ operate (1 + j) (getD ρ (x .b) 0) (getD ρ (x .c) 0) t) × (s ≡ 0)
+        → (worked controls x ρ cs ≡ effect v s cs) × (told ≡ told or workedClips x ρ)
     three-work f = op-works (λ l. f)
 
   pub control-there : key ≡ 2 → x .a < length controls

@@ -4,7 +4,7 @@ use mathlib.Core.List.{List, [], _∷_, _++_}
 use lib.ListN.{length, getD, drop, take}
 use Rattle.word.specs.Limits.{widest, mostInstructions}
 use Rattle.word.specs.Tick.{Tick, Stepped, stepped}
-use Rattle.flat.specs.Flat.{Instruction, instruction, width, machine, execute, held}
+use Rattle.flat.specs.Flat.{Instruction, instruction, width, machine, execute, executeClips, held}
 
 -- a code: how many inputs and cells it has, its instructions, and the registers of its outputs
 pub record Code : Type 0 where
@@ -75,5 +75,6 @@ decode xs = record {
 -- one tick of a code: "Registers 0 to n-1 hold the tick's inputs", then the instructions, then the output registers are read
 unfoldable pub codeTick : Code → Tick → List ℕ → Stepped
 codeTick k f cs =
-    let m = execute (f .controls) (k .instructions) (machine (f .inputs) 0 cs) in
-    stepped (held (m .registers) (k .results)) (m .cells)
+    let start = machine (f .inputs) 0 cs in
+    let m = execute (f .controls) (k .instructions) start in
+    stepped (held (m .registers) (k .results)) (m .cells) (executeClips (f .controls) (k .instructions) start)

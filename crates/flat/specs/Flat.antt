@@ -1,9 +1,11 @@
 -- Flat code: instructions, and what they do to registers and cells in one tick.
 use Prim.Native.Nat.{ℕ, zero, suc}
+use mathlib.Core.Bool.{Bool, false}
 use mathlib.Core.List.{List, [], _∷_, _++_, map}
 use lib.ListN.{getD, set}
 use lib.Dec.{eqb}
-use Rattle.word.specs.Choice.{pick}
+use Rattle.word.specs.Choice.{_and_, _or_, pick}
+use Rattle.word.specs.Word.{clipped}
 use Rattle.word.specs.Operation.{operate, demand}
 use Rattle.cells.specs.Delay.{delayed, moved}
 
@@ -71,6 +73,19 @@ execute1 controls x m =
 unfoldable pub execute : List ℕ → List Instruction → Machine → Machine
 execute controls [] m = m
 execute controls (x ∷ xs) m = execute controls xs (execute1 controls x m)
+
+-- E6: an instruction that is not skipped is a delay whose amount lies outside 0 to D; a skipped one "does not count"
+abbrev pub workedClips : Instruction → List ℕ → Bool
+workedClips x ρ = eqb (x .code) 4 and clipped (getD ρ (x .b) 0) (x .d)
+
+abbrev pub actedClips : Instruction → List ℕ → ℕ → Bool
+actedClips x ρ zero = workedClips x ρ
+actedClips x ρ (suc s) = false
+
+-- at least one instruction of a tick is such a delay
+unfoldable pub executeClips : List ℕ → List Instruction → Machine → Bool
+executeClips controls [] m = false
+executeClips controls (x ∷ xs) m = actedClips x (m .registers) (m .skip) or executeClips controls xs (execute1 controls x m)
 
 -- what the registers rs hold: of the "output registers", the outputs of the tick
 abbrev pub held : List ℕ → List ℕ → List ℕ

@@ -3,16 +3,16 @@ use Prim.Native.Nat.{ℕ}
 use mathlib.Core.List.{List}
 use lib.ListN.{length}
 use Rattle.word.specs.Choice.{pick}
-use Rattle.refusal.specs.Answer.{Answer, count, refusalOf}
-use Rattle.cells.specs.Block.{Ran, refusal, called}
+use Rattle.refusal.specs.Answer.{Answer, refusalOf}
+use Rattle.cells.specs.Block.{withReport, Ran, refusal, called}
 use Rattle.flat.specs.declared.RunAnswer.{RunAnswer}
 use Rattle.flat.specs.declared.RunAnswer.the-variants.{Samples, Refused}
 use Rattle.flat.specs.Code.{Code, decode, codeTick}
 use Rattle.flat.specs.Check.{codeOk}
 
--- the document's answer for each case: "the count of .. output samples .. that the call calls for"
+-- the document's answer for each case: "the count of .. output samples .. that the call calls for", and its report
 abbrev pub answerOf : RunAnswer → Answer
-answerOf (Samples n) = count n
+answerOf (Samples n k) = withReport n k
 answerOf (Refused r) = refusalOf r
 
 -- a call of a code that passed the check: 14, then 12; else its ticks

@@ -14,17 +14,17 @@ use format::REGISTERS;
 use keys::put_keys;
 use refusal::Refusal;
 use tick::run_tick;
+use word::bit;
 use word::index;
 ghost use mathlib.Core.Path.{_≡_};
 ghost use Prim.Native.Nat.{_+_};
-ghost use Rattle.word.specs.Tick.{stepped};
-ghost use Rattle.cells.specs.Block.{ranAs, ticksOf, played};
+ghost use Rattle.cells.specs.Block.{ranAs, ticksOf, playedAs, played};
 ghost use Rattle.flat.specs.Code.{header, inputCount, instructionCount, decode, codeTick};
 ghost use Rattle.flat.specs.Run.{answerOf, checks, ran};
 ghost use Rattle.flat.specs.Steps.{Checked, Keys, Playable};
 
 // The ticks of a call that is not refused, one after another, on the cells and the outputs that it needs and no more,
-// with the keys of its code.
+// with the keys of its code; in how many of them was a delay clipped?
 fn play_keyed(
     code: &[u32],
     keys: &[u32],
@@ -33,11 +33,11 @@ fn play_keyed(
     controls: &[u32],
     cells: &mut [u32],
     outputs: &mut [u32],
-)
+) -> u32
     requires { ⌜ Keys (now code) (now keys) (inputCount (now code) + instructionCount (now code)) header (inputCount (now code)) ⌝ }
     requires { ⌜ Playable (now code) ticks (now inputs) (now controls) (now cells) (now outputs) ⌝ }
-    ensures { λ _. ⌜ played (codeTick (decode (now (code .entry)))) (ticksOf (inputCount (now (code .entry))) (now (controls .entry)) ticks (now (inputs .entry))) (now (cells .entry))
-        ≡ stepped (now (outputs .exit)) (now (cells .exit)) ⌝ }
+    ensures { λ r. ⌜ played (codeTick (decode (now (code .entry)))) (ticksOf (inputCount (now (code .entry))) (now (controls .entry)) ticks (now (inputs .entry))) (now (cells .entry))
+        ≡ playedAs (now (outputs .exit)) (now (cells .exit)) r ⌝ }
 {
     let n = index(code[INPUTS]);
     let m = index(code[OUTPUTS]);
@@ -45,10 +45,11 @@ fn play_keyed(
     let mut left: usize = ticks;
     let mut read: usize = 0;
     let mut written: usize = 0;
+    let mut clips: u32 = 0;
     while 0 < left {
         let read_to = read + n;
         let written_to = written + m;
-        run_tick(
+        let clipped = run_tick(
             code,
             keys,
             controls,
@@ -57,10 +58,12 @@ fn play_keyed(
             cells,
             &mut outputs[written..written_to],
         );
+        clips += bit(clipped);
         read = read_to;
         written = written_to;
         left -= 1;
     }
+    clips
 }
 
 // The same, with the keys put together once for all its ticks.
@@ -71,19 +74,19 @@ fn play(
     controls: &[u32],
     cells: &mut [u32],
     outputs: &mut [u32],
-)
+) -> u32
     requires { ⌜ Playable (now code) ticks (now inputs) (now controls) (now cells) (now outputs) ⌝ }
-    ensures { λ _. ⌜ played (codeTick (decode (now (code .entry)))) (ticksOf (inputCount (now (code .entry))) (now (controls .entry)) ticks (now (inputs .entry))) (now (cells .entry))
-        ≡ stepped (now (outputs .exit)) (now (cells .exit)) ⌝ }
+    ensures { λ r. ⌜ played (codeTick (decode (now (code .entry)))) (ticksOf (inputCount (now (code .entry))) (now (controls .entry)) ticks (now (inputs .entry))) (now (cells .entry))
+        ≡ playedAs (now (outputs .exit)) (now (cells .exit)) r ⌝ }
 {
     let mut keys = [0u32; REGISTERS];
     put_keys(code, &mut keys);
-    play_keyed(code, &keys, ticks, inputs, controls, cells, outputs);
+    play_keyed(code, &keys, ticks, inputs, controls, cells, outputs)
 }
 
-// The count of output samples that a call calls for, or its refusal.
+// The count of output samples that a call calls for, with the count of its ticks in which a delay was clipped; or its refusal.
 pub enum RunAnswer {
-    Samples(u32),
+    Samples { count: u32, clipped: u32 },
     Refused(Refusal),
 }
 
@@ -112,7 +115,7 @@ fn run_checked(
     if outputs.len() < total {
         return RunAnswer::Refused(Refusal::ShortBuffer);
     }
-    play(
+    let clipped = play(
         code,
         t,
         inputs,
@@ -120,7 +123,10 @@ fn run_checked(
         &mut cells[..count],
         &mut outputs[..total],
     );
-    RunAnswer::Samples(total as u32)
+    RunAnswer::Samples {
+        count: total as u32,
+        clipped,
+    }
 }
 
 // One call, with any numbers as code: refusal 13, then 14, then 12; else its output samples, and the cells after them.

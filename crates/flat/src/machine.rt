@@ -7,15 +7,16 @@ use crate::format::WIDTH;
 use crate::format::instruction_at;
 use cells::clear;
 use cells::delay_at;
+use cells::tell;
 use word::demand;
 use word::index;
 use word::operate;
 ghost use mathlib.Core.Path.{_≡_};
 ghost use Prim.Native.Nat.{_+_, _<_};
 ghost use lib.ListN.{length, getD, take, drop};
-ghost use Rattle.word.specs.Choice.{pick};
+ghost use Rattle.word.specs.Choice.{_or_, pick};
 ghost use Rattle.word.specs.Operation.{operate as operateOf, demand as demandOf};
-ghost use Rattle.flat.specs.Flat.{worked, effect, machine, execute as executeOf};
+ghost use Rattle.flat.specs.Flat.{worked, workedClips, effect, machine, execute as executeOf, executeClips};
 ghost use Rattle.flat.specs.Code.{header, instructionsOf, inputCount, instructionCount};
 ghost use Rattle.flat.specs.Steps.{listed, Workable, Steppable, Advanced, Ready};
 
@@ -56,17 +57,29 @@ fn operated(op: u32, x: Instruction, third: u32, registers: &[u32]) -> Effect
 }
 
 // One instruction that is not skipped, by its key. An operation's arm names it as a constant, so that each is compiled
-// for itself, and one jump finds it; only the selector reads a third register.
-fn work(key: u32, x: Instruction, controls: &[u32], registers: &[u32], cells: &mut [u32]) -> Effect
+// for itself, and one jump finds it; only the selector reads a third register, only a delay tells that it was clipped.
+fn work(
+    key: u32,
+    x: Instruction,
+    controls: &[u32],
+    registers: &[u32],
+    cells: &mut [u32],
+    told: &mut bool,
+) -> Effect
     requires { ⌜ Workable key (listed x) (now controls) (now registers) (now cells) ⌝ }
     ensures { λ r. ⌜ worked (now (controls .entry)) (listed x) (now (registers .entry)) (now (cells .entry)) ≡ effect (r .value) (r .skip) (now (cells .exit)) ⌝ }
+    ensures { λ _. ⌜ now (told .exit) ≡ (now (told .entry) or workedClips (listed x) (now (registers .entry))) ⌝ }
 {
     let a = index(x.a);
     let b = index(x.b);
     match key {
         1 => gives(x.a),
         2 => gives(controls[a]),
-        4 => gives(delay_at(cells, index(x.c), index(x.d), registers[a], registers[b]).value),
+        4 => {
+            let delayed = delay_at(cells, index(x.c), index(x.d), registers[a], registers[b]);
+            tell(told, delayed.clipped);
+            gives(delayed.value)
+        }
         5 => gives(cells[a]),
         6 => {
             cells[a] = registers[b];
@@ -94,11 +107,13 @@ fn step(
     own: usize,
     registers: &mut [u32],
     cells: &mut [u32],
+    told: &mut bool,
 ) -> usize
     requires { ⌜ Steppable key (listed x) (now controls) own (now registers) (now cells) ⌝ }
     ensures { λ s. ⌜ Advanced (listed x) (now (controls .entry)) own (now (registers .entry)) (now (cells .entry)) s (now (registers .exit)) (now (cells .exit)) ⌝ }
+    ensures { λ _. ⌜ now (told .exit) ≡ (now (told .entry) or workedClips (listed x) (take own (now (registers .entry)))) ⌝ }
 {
-    let given = work(key, x, controls, registers, cells);
+    let given = work(key, x, controls, registers, cells, told);
     let skip = given.skip;
     registers[own] = given.value;
     let from = own + 1;
@@ -107,22 +122,24 @@ fn step(
     skip
 }
 
-// The instructions of a code, over registers of which the first hold the inputs.
+// The instructions of a code, over registers of which the first hold the inputs; was a delay clipped?
 pub fn execute(
     code: &[u32],
     keys: &[u32],
     controls: &[u32],
     registers: &mut [u32],
     cells: &mut [u32],
-)
+) -> bool
     requires { ⌜ Ready (now code) (now keys) (now controls) (now registers) (now cells) ⌝ }
     ensures { λ _. ⌜ executeOf (now (controls .entry)) (instructionsOf (instructionCount (now (code .entry))) (drop header (now (code .entry)))) (machine (take (inputCount (now (code .entry))) (now (registers .entry))) 0 (now (cells .entry)))
         ≡ machine (take (inputCount (now (code .entry)) + instructionCount (now (code .entry))) (now (registers .exit))) 0 (now (cells .exit)) ⌝ }
+    ensures { λ r. ⌜ r ≡ executeClips (now (controls .entry)) (instructionsOf (instructionCount (now (code .entry))) (drop header (now (code .entry)))) (machine (take (inputCount (now (code .entry))) (now (registers .entry))) 0 (now (cells .entry))) ⌝ }
 {
     let first = index(code[INPUTS]);
     let end = first + index(code[INSTRUCTIONS]);
     let mut p: usize = HEADER;
     let mut own: usize = first;
+    let mut told = false;
     while own < end {
         let skip = step(
             keys[own],
@@ -131,6 +148,7 @@ pub fn execute(
             own,
             registers,
             cells,
+            &mut told,
         );
         p += WIDTH;
         own += 1;
@@ -140,4 +158,5 @@ pub fn execute(
             own += skip;
         }
     }
+    told
 }

@@ -39,7 +39,7 @@ fn gather(code: &[u32], from: usize, registers: &[u32], outputs: &mut [u32])
     }
 }
 
-// The tick; what the registers held before does not matter.
+// The tick; what the registers held before does not matter. Was a delay clipped in it?
 pub fn run_tick(
     code: &[u32],
     keys: &[u32],
@@ -48,17 +48,18 @@ pub fn run_tick(
     registers: &mut [u32],
     cells: &mut [u32],
     outputs: &mut [u32],
-)
+) -> bool
     requires { ⌜ Ready (now code) (now keys) (now controls) (now registers) (now cells) ⌝ }
     requires { ⌜ (length (now inputs) ≡ inputCount (now code)) × (length (now outputs) ≡ outputCount (now code)) ⌝ }
-    ensures { λ _. ⌜ codeTick (decode (now (code .entry))) (tick (now (inputs .entry)) (now (controls .entry))) (now (cells .entry)) ≡ stepped (now (outputs .exit)) (now (cells .exit)) ⌝ }
+    ensures { λ r. ⌜ codeTick (decode (now (code .entry))) (tick (now (inputs .entry)) (now (controls .entry))) (now (cells .entry)) ≡ stepped (now (outputs .exit)) (now (cells .exit)) r ⌝ }
 {
     put(inputs, registers);
-    execute(code, keys, controls, registers, cells);
+    let clipped = execute(code, keys, controls, registers, cells);
     gather(
         code,
         HEADER + WIDTH * index(code[INSTRUCTIONS]),
         registers,
         outputs,
     );
+    clipped
 }

@@ -3,13 +3,13 @@ use Prim.Native.Nat.{_+_}
 use mathlib.Core.Path.{refl, _∙_}
 use native.Mathlib.Omega.{arith}
 use lib.ListN.{length-set}
-use Rattle.flat.proofs.Executing.{steppable-works, skip-room, advance}
+use Rattle.flat.proofs.Executing.{steppable-works, tells, skip-room, advance}
 use borrow.Author.Needs.{needs}
 use Rattle.flat.proofs.machine.step.Statement.{statement}
 use Rattle.flat.proofs.machine.step.Tie as tie
 
 work-requires : tie.Need-work-requires
-work-requires c κs = steppable-works (c .before .before .before .before .before .pre)
+work-requires c κs = steppable-works (c .before .before .before .before .before .before .pre)
 
 mul-registers : tie.Need-mul-registers
 mul-registers c = search needs
@@ -21,7 +21,7 @@ add-from : tie.Need-add-from
 add-from c = search needs
 
 add-to : tie.Need-add-to
-add-to c = omega (arith, skip-room (c .before .before .before .before .before .before .before .before .pre) (c .before .before .work .ensures))
+add-to c = omega (arith, skip-room (c .before .before .before .before .before .before .before .before .before .pre) (c .before .before .work .ensures .0))
 
 mul-clear : tie.Need-mul-clear
 mul-clear c = search needs
@@ -33,7 +33,7 @@ part-clear-start : tie.Need-part-clear-start
 part-clear-start c = search needs
 
 part-clear-end : tie.Need-part-clear-end
-part-clear-end c = simp length-set (omega (arith, skip-room (c .before .before .before .before .before .before .before .before .pre) (c .before .before .work .ensures)))
+part-clear-end c = simp length-set (omega (arith, skip-room (c .before .before .before .before .before .before .before .before .before .pre) (c .before .before .work .ensures .0)))
 
 clear-requires : tie.Need-clear-requires
 clear-requires c κs = search needs
@@ -45,7 +45,7 @@ same-length-2 : tie.Need-same-length-2
 same-length-2 c = search needs
 
 returns : tie.Need-returns
-returns c = advance (c .before .before .before .before .before .before .before .before .before .before .before .before .pre) (c .before .before .before .before .before .before .work .ensures) _ (c .before .before .clear .last .0) _ (c .before .before .before .before .before .before .before .before .before .before .before .before .args .own + 1) _ refl refl (c .before .before .clear .ensures) refl
+returns c = (advance (c .before .before .before .before .before .before .before .before .before .before .before .before .before .pre) (c .before .before .before .before .before .before .work .ensures .0) _ (c .before .before .clear .last .0) _ (c .before .before .before .before .before .before .before .before .before .before .before .before .before .args .own + 1) _ refl refl (c .before .before .clear .ensures) refl, tells (c .before .before .before .before .before .before .before .before .before .before .before .before .before .pre) (c .before .before .before .before .before .before .before .before .before .before .before .before .before .args .told .now) (c .before .before .before .before .before .before .work .ensures .1))
 
 pub step-spec : {M : Type 1} → statement M
 step-spec =

@@ -1,9 +1,9 @@
 -- `flat::machine::work` meets its contract, key by key.
-use mathlib.Core.Path.{refl}
+use mathlib.Core.Path.{refl, _∙_}
 use native.Mathlib.Omega.{arith}
 use Rattle.word.specs.Operation.{operands}
 use Rattle.flat.specs.Flat.{worked}
-use Rattle.flat.proofs.Working.{code-is, skip-left, op-there, third-there, two-work, three-work, control-there, delay-there, cell-there, write-there, clock-there}
+use Rattle.flat.proofs.Working.{code-is, skip-left, untold, op-there, third-there, two-work, three-work, control-there, delay-there, cell-there, write-there, clock-there}
 use borrow.Author.Needs.{needs}
 use Rattle.flat.proofs.machine.work.Statement.{statement}
 use Rattle.flat.proofs.machine.work.Tie as tie
@@ -48,6 +48,9 @@ delay-at-requires : tie.Need-delay-at-requires
 delay-at-requires c κs =
     let o = delay-there (c .before .before .before .before .before .before .before .before .before .before .before .pre) (c .before .before .before .before .before .match .keys3) .1 .1 in
     omega (arith, o .0, o .1, c .before .before .before .index3 .ensures, c .before .before .index4 .ensures)
+
+tell-requires : tie.Need-tell-requires
+tell-requires c κs = search needs
 
 gives-requires-3 : tie.Need-gives-requires-3
 gives-requires-3 c κs = search needs
@@ -126,29 +129,33 @@ skips-requires c κs = search needs
 
 returns : tie.Need-returns
 unfolding worked
-returns c = rw (code-is (c .before .before .before .before .before .before .before .pre) (c .before .match .keys1) (omega arith) (omega arith), c .gives .ensures .0, c .gives .ensures .1)
+returns c = let k = code-is (c .before .before .before .before .before .before .before .pre) (c .before .match .keys1) (omega arith) (omega arith) in (rw (k, c .gives .ensures .0, c .gives .ensures .1), untold (c .before .before .before .before .before .before .before .pre) k refl)
 
 returns-2 : tie.Need-returns-2
 unfolding worked
-returns-2 c = rw (code-is (c .before .before .before .before .before .before .before .before .pre) (c .before .before .match .keys2) (omega arith) (omega arith), c .gives2 .ensures .0, c .gives2 .ensures .1, c .before .before .before .before .index .ensures)
+returns-2 c = let k = code-is (c .before .before .before .before .before .before .before .before .pre) (c .before .before .match .keys2) (omega arith) (omega arith) in (rw (k, c .gives2 .ensures .0, c .gives2 .ensures .1, c .before .before .before .before .index .ensures), untold (c .before .before .before .before .before .before .before .before .pre) k refl)
 
 same-length : tie.Need-same-length
 same-length c = search needs
 
 returns-3 : tie.Need-returns-3
 unfolding worked
-returns-3 c = rw (code-is (c .before .before .before .before .before .before .before .before .before .before .before .before .before .before .before .pre) (c .before .before .before .before .before .before .before .before .before .match .keys3) (omega arith) (omega arith), c .gives3 .ensures .0, c .gives3 .ensures .1, c .before .before .before .delay-at .ensures .0, c .before .before .before .delay-at .ensures .1, c .before .before .before .before .before .before .before .before .before .before .before .index .ensures, c .before .before .before .before .before .before .before .before .before .before .index2 .ensures, c .before .before .before .before .before .before .before .index3 .ensures, c .before .before .before .before .before .before .index4 .ensures)
+returns-3 c =
+    let k = code-is (c .before .before .before .before .before .before .before .before .before .before .before .before .before .before .before .before .before .pre) (c .before .before .before .before .before .before .before .before .before .before .before .match .keys3) (omega arith) (omega arith) in (
+      rw (k, c .gives3 .ensures .0, c .gives3 .ensures .1, c .before .before .before .before .before .delay-at .ensures .0, c .before .before .before .before .before .delay-at .ensures .1, c .before .before .before .before .before .before .before .before .before .before .before .before .before .index .ensures, c .before .before .before .before .before .before .before .before .before .before .before .before .index2 .ensures, c .before .before .before .before .before .before .before .before .before .index3 .ensures, c .before .before .before .before .before .before .before .before .index4 .ensures),
+      c .before .tell .ensures ∙ rw (k, c .before .before .before .before .before .delay-at .ensures .2, c .before .before .before .before .before .before .before .before .before .before .before .before .index2 .ensures, c .before .before .before .before .before .before .before .before .index4 .ensures),
+    )
 
 returns-4 : tie.Need-returns-4
 unfolding worked
-returns-4 c = rw (code-is (c .before .before .before .before .before .before .before .before .pre) (c .before .before .match .keys4) (omega arith) (omega arith), c .gives4 .ensures .0, c .gives4 .ensures .1, c .before .before .before .before .index .ensures)
+returns-4 c = let k = code-is (c .before .before .before .before .before .before .before .before .pre) (c .before .before .match .keys4) (omega arith) (omega arith) in (rw (k, c .gives4 .ensures .0, c .gives4 .ensures .1, c .before .before .before .before .index .ensures), untold (c .before .before .before .before .before .before .before .before .pre) k refl)
 
 same-length-2 : tie.Need-same-length-2
 same-length-2 c = search needs
 
 returns-5 : tie.Need-returns-5
 unfolding worked
-returns-5 c = rw (code-is (c .before .before .before .before .before .before .before .before .pre) (c .before .before .match .keys5) (omega arith) (omega arith), c .gives5 .ensures .0, c .gives5 .ensures .1, c .before .before .before .before .index .ensures, c .before .before .before .index2 .ensures)
+returns-5 c = let k = code-is (c .before .before .before .before .before .before .before .before .pre) (c .before .before .match .keys5) (omega arith) (omega arith) in (rw (k, c .gives5 .ensures .0, c .gives5 .ensures .1, c .before .before .before .before .index .ensures, c .before .before .before .index2 .ensures), untold (c .before .before .before .before .before .before .before .before .pre) k refl)
 
 returns-6 : tie.Need-returns-6
 unfolding operands
@@ -191,7 +198,7 @@ returns-15 c = three-work (c .before .before .before .before .before .before .be
 
 returns-16 : tie.Need-returns-16
 unfolding worked
-returns-16 c = rw (skip-left (c .before .before .before .before .before .before .before .before .pre) (c .before .before .match .rest), c .skips .ensures .0, c .skips .ensures .1, c .before .before .before .before .index .ensures, c .before .before .before .index2 .ensures)
+returns-16 c = let k = skip-left (c .before .before .before .before .before .before .before .before .pre) (c .before .before .match .rest) in (rw (k, c .skips .ensures .0, c .skips .ensures .1, c .before .before .before .before .index .ensures, c .before .before .before .index2 .ensures), untold (c .before .before .before .before .before .before .before .before .pre) k refl)
 
 pub work-spec : {M : Type 1} → statement M
 work-spec =
@@ -210,6 +217,7 @@ work-spec =
     mul-delay-at-2
     shared-slice-read-delay-at-2
     delay-at-requires
+    tell-requires
     gives-requires-3
     mul-gives-2
     slice-read-gives

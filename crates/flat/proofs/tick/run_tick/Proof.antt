@@ -42,7 +42,7 @@ returns : tie.Need-returns
 returns c =
     let e = c .before .before .before .before .before .before .before .before .before .before .before .before .before .before .before .before .put .ensures in
     let q = c .before .before .gather .ensures in
-    ticked _ _ _ _ (c .before .before .before .before .before .before .before .before .before .before .before .before .before .before .before .before .put .last .1 .0) (c .before .before .before .before .before .before .before .before .before .before .before .execute .last .1 .1 .1 .0) _ _ (c .before .before .before .before .before .before .before .before .before .before .before .before .before .before .before .before .before .before .before .before .before .before .before .before .before .pre .0 .checked) (rw (c .before .before .before .before .before .before .before .before .before .before .before .before .before .before .before .before .before .before .before .before .before .before .before .before .before .pre .1 .0) at e) (c .before .before .before .before .before .before .before .before .before .before .before .execute .ensures) (rw (c .before .before .before .before .before .index .ensures) at q)
+    ticked _ _ _ _ (c .before .before .before .before .before .before .before .before .before .before .before .before .before .before .before .before .put .last .1 .0) (c .before .before .before .before .before .before .before .before .before .before .before .execute .last .1 .1 .1 .0) _ _ _ (c .before .before .before .before .before .before .before .before .before .before .before .before .before .before .before .before .before .before .before .before .before .before .before .before .before .pre .0 .checked) (rw (c .before .before .before .before .before .before .before .before .before .before .before .before .before .before .before .before .before .before .before .before .before .before .before .before .before .pre .1 .0) at e) (c .before .before .before .before .before .before .before .before .before .before .before .execute .ensures .0) (rw (c .before .before .before .before .before .index .ensures) at q) (c .before .before .before .before .before .before .before .before .before .before .before .execute .ensures .1)
 
 pub run-tick-spec : {M : Type 1} → statement M
 run-tick-spec =
