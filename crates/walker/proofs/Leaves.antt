@@ -1,13 +1,16 @@
 -- One tick of a primitive, and of an ondemand.
 use Prim.Native.Nat.{ℕ, suc, _+_, _-_, _≤_, _<_}
 use mathlib.Core.Path.{_≡_, refl, sym, ap, ap₂, subst, _∙_}
-use mathlib.Core.Bool.{true, false}
+use mathlib.Core.Bool.{Bool, true, false}
 use mathlib.Core.List.{List, [], _∷_}
 use native.Mathlib.Omega.{arith}
 use lib.ListN.{getD, take, drop}
 use lib.Seq.{take-take, take-nil}
+use Rattle.word.specs.Choice.{_or_}
+use Rattle.word.specs.Word.{clipped}
 use Rattle.word.specs.Operation.{operate, demand}
 use Rattle.word.specs.Tick.{Beam, tick, stepped, headOr, tailOf}
+use Rattle.word.proofs.Lists.{or-none}
 use Rattle.cells.specs.Cells.{part, store}
 use Rattle.cells.specs.Delay.{delayed, moved}
 use Rattle.arity.specs.Tree.{Tree, ins, outs, size}
@@ -43,49 +46,52 @@ module _ {table shape : List ℕ} {i : ℕ} (ready : Ready table shape) (inside 
   delay-room e h = omega (arith, node .cells, ap size (leaf-is 4 e (omega arith)))
 
   -- a tick of a primitive, of its tree alone
-  ticked-by : {controls xs cs ys cs′ : List ℕ} (k : ℕ) → kindAt table i ≡ k → k ≤ 6
-      → stepped (take (outs (leaf i (primitiveOf k (firstAt table i)))) ys) cs′ ≡ step (base table) (leaf i (primitiveOf k (firstAt table i))) (tick (take (ins (tree table i)) xs) controls) cs
-      → Ticked table controls i xs cs ys cs′
-  ticked-by {controls} {xs} {cs} {ys} {cs′} k e l h =
+  ticked-by : {controls xs cs ys cs′ : List ℕ} {told told′ : Bool} {o : Bool} (k : ℕ) → told′ ≡ told or o → kindAt table i ≡ k → k ≤ 6
+      → stepped (take (outs (leaf i (primitiveOf k (firstAt table i)))) ys) cs′ o ≡ step (base table) (leaf i (primitiveOf k (firstAt table i))) (tick (take (ins (tree table i)) xs) controls) cs
+      → Ticked table controls i xs cs ys cs′ told told′
+  ticked-by {controls} {xs} {cs} {ys} {cs′} {told} {told′} {o} k says e l h =
       record {
+        clips = o;
+        tells = says;
         is =
-            ap (λ (t : Tree). stepped (take (outs t) ys) cs′) (leaf-is k e l)
+            ap (λ (t : Tree). stepped (take (outs t) ys) cs′ o) (leaf-is k e l)
             ∙ h
             ∙ sym (ap (λ (t : Tree). step (base table) t (tick (take (ins (tree table i)) xs) controls) cs) (leaf-is k e l));
       }
 
-  module _ {controls xs cs ys : List ℕ} where
-    pub number-ticked : {v : ℕ} → kindAt table i ≡ 1 → v ≡ firstAt table i → take 1 ys ≡ v ∷ [] → Ticked table controls i xs cs ys cs
+  module _ {controls xs cs ys : List ℕ} {told : Bool} where
+    pub number-ticked : {v : ℕ} → kindAt table i ≡ 1 → v ≡ firstAt table i → take 1 ys ≡ v ∷ [] → Ticked table controls i xs cs ys cs told told
     unfolding step outs
-    number-ticked e ev h = ticked-by 1 e (omega arith) (rw (← ev) (ap (λ (l : Beam). stepped l cs) h))
+    number-ticked e ev h = ticked-by 1 (sym (or-none told)) e (omega arith) (rw (← ev) (ap (λ (l : Beam). stepped l cs false) h))
 
-    pub control-ticked : {v k : ℕ} → kindAt table i ≡ 2 → k ≡ firstAt table i → v ≡ getD controls k 0 → take 1 ys ≡ v ∷ [] → Ticked table controls i xs cs ys cs
+    pub control-ticked : {v k : ℕ} → kindAt table i ≡ 2 → k ≡ firstAt table i → v ≡ getD controls k 0 → take 1 ys ≡ v ∷ [] → Ticked table controls i xs cs ys cs told told
     unfolding step outs
-    control-ticked e ek ev h = ticked-by 2 e (omega arith) (rw (← ek, ← ev) (ap (λ (l : Beam). stepped l cs) h))
+    control-ticked e ek ev h = ticked-by 2 (sym (or-none told)) e (omega arith) (rw (← ek, ← ev) (ap (λ (l : Beam). stepped l cs false) h))
 
     pub operation-ticked : {o x y z v n : ℕ} → kindAt table i ≡ 3 → o ≡ firstAt table i → n ≡ ins (tree table i) → x ≡ getD (take n xs) 0 0 → y ≡ getD (take n xs) 1 0 → z ≡ getD (take n xs) 2 0
-        → v ≡ operate o x y z → take 1 ys ≡ v ∷ [] → Ticked table controls i xs cs ys cs
+        → v ≡ operate o x y z → take 1 ys ≡ v ∷ [] → Ticked table controls i xs cs ys cs told told
     unfolding step outs
-    operation-ticked e eo en ex ey ez ev h = ticked-by 3 e (omega arith) (rw (← eo, ← en, ← ex, ← ey, ← ez, ← ev) (ap (λ (l : Beam). stepped l cs) h))
+    operation-ticked e eo en ex ey ez ev h = ticked-by 3 (sym (or-none told)) e (omega arith) (rw (← eo, ← en, ← ex, ← ey, ← ez, ← ev) (ap (λ (l : Beam). stepped l cs false) h))
 
-    pub delay-ticked : {a d x y v n : ℕ} {cs′ : List ℕ} → kindAt table i ≡ 4 → a ≡ base table i → d ≡ firstAt table i → n ≡ ins (tree table i) → x ≡ getD (take n xs) 0 0 → y ≡ getD (take n xs) 1 0
-        → v ≡ delayed a d x y cs → cs′ ≡ moved a d x cs → take 1 ys ≡ v ∷ [] → Ticked table controls i xs cs ys cs′
+    pub delay-ticked : {a d x y v n : ℕ} {cs′ : List ℕ} {told′ o : Bool} → kindAt table i ≡ 4 → a ≡ base table i → d ≡ firstAt table i → n ≡ ins (tree table i) → x ≡ getD (take n xs) 0 0 → y ≡ getD (take n xs) 1 0
+        → v ≡ delayed a d x y cs → cs′ ≡ moved a d x cs → o ≡ clipped y d → told′ ≡ told or o → take 1 ys ≡ v ∷ [] → Ticked table controls i xs cs ys cs′ told told′
     unfolding step outs
-    delay-ticked {cs′ = cs′} e ea ed en ex ey ev ec h = ticked-by 4 e (omega arith) (rw (← ed, ← ea, ← en, ← ex, ← ey, ← ev, ← ec) (ap (λ (l : Beam). stepped l cs′) h))
+    delay-ticked {cs′ = cs′} {o = o} e ea ed en ex ey ev ec eo says h =
+        ticked-by 4 says e (omega arith) (rw (← ed, ← ea, ← en, ← ex, ← ey, ← ev, ← ec, ← eo) (ap (λ (l : Beam). stepped l cs′ o) h))
 
-    pub cable-ticked : {v n : ℕ} → kindAt table i ≡ 5 → n ≡ ins (tree table i) → v ≡ getD (take n xs) 0 0 → take 1 ys ≡ v ∷ [] → Ticked table controls i xs cs ys cs
+    pub cable-ticked : {v n : ℕ} → kindAt table i ≡ 5 → n ≡ ins (tree table i) → v ≡ getD (take n xs) 0 0 → take 1 ys ≡ v ∷ [] → Ticked table controls i xs cs ys cs told told
     unfolding step outs
-    cable-ticked e en ev h = ticked-by 5 e (omega arith) (rw (← en, ← ev) (ap (λ (l : Beam). stepped l cs) h))
+    cable-ticked e en ev h = ticked-by 5 (sym (or-none told)) e (omega arith) (rw (← en, ← ev) (ap (λ (l : Beam). stepped l cs false) h))
 
-    pub cut-ticked : kindAt table i ≡ 6 → Ticked table controls i xs cs ys cs
+    pub cut-ticked : kindAt table i ≡ 6 → Ticked table controls i xs cs ys cs told told
     unfolding step outs
-    cut-ticked e = ticked-by 6 e (omega arith) refl
+    cut-ticked e = ticked-by 6 (sym (or-none told)) e (omega arith) refl
 
 -- a tick of an ondemand with a demand, from the tick of its body
-demanded-step : (base : ℕ → ℕ) (i : ℕ) (b : Tree) (xs us cs ys cs₁ : List ℕ) → demand (headOr 0 xs) ≡ true → step base b (tick (tailOf xs) us) cs ≡ stepped ys cs₁
-    → step base (ondemand i b) (tick xs us) cs ≡ stepped (part (base i) (outs b) (store (base i) ys cs₁)) (store (base i) ys cs₁)
+demanded-step : (base : ℕ → ℕ) (i : ℕ) (b : Tree) (xs us cs ys cs₁ : List ℕ) (o : Bool) → demand (headOr 0 xs) ≡ true → step base b (tick (tailOf xs) us) cs ≡ stepped ys cs₁ o
+    → step base (ondemand i b) (tick xs us) cs ≡ stepped (part (base i) (outs b) (store (base i) ys cs₁)) (store (base i) ys cs₁) o
 unfolding step
-demanded-step base i b xs us cs ys cs₁ y e = rw (y, e)
+demanded-step base i b xs us cs ys cs₁ o y e = rw (y, e)
 
 -- an ondemand: its counts, its demand, and its rest
 module _ {table shape : List ℕ} {i : ℕ} (ready : Ready table shape) (d : Demands table i) where
@@ -130,28 +136,32 @@ module _ {table shape : List ℕ} {i : ℕ} (ready : Ready table shape) (d : Dem
       rest [] = simp take-nil
       rest (x ∷ l) = refl
 
-  module _ {controls xs cs os : List ℕ} where
-    pub rest-ticked : {cs₁ : List ℕ} → demand (getD xs 0 0) ≡ false → cs₁ ≡ cs → Holding table i cs₁ os → Ticked table controls i xs cs os cs₁
+  module _ {controls xs cs os : List ℕ} {told told′ : Bool} where
+    pub rest-ticked : {cs₁ : List ℕ} → demand (getD xs 0 0) ≡ false → cs₁ ≡ cs → told′ ≡ told → Holding table i cs₁ os → Ticked table controls i xs cs os cs₁ told told′
     unfolding step
-    rest-ticked n ec h =
+    rest-ticked n ec et h =
         record {
+          clips = false;
+          tells = et ∙ sym (or-none told);
           is =
-              ap₂ stepped (h .is ∙ ap₂ (λ (m : ℕ) (l : List ℕ). part (base table i) m l) outs-same ec) ec
+              ap₂ (λ (l m : List ℕ). stepped l m false) (h .is ∙ ap₂ (λ (m : ℕ) (l : List ℕ). part (base table i) m l) outs-same ec) ec
               ∙ sym (ap (λ (t : Tree). step (base table) t (tick (take (ins (tree table i)) xs) controls) cs) demand-is ∙ rw (clock-is xs, n));
         }
 
-    pub demand-ticked : {b : ℕ} {zs ys cs₁ cs₂ : List ℕ} → demand (getD xs 0 0) ≡ true → b ≡ firstAt table i → take (32 - 1) zs ≡ drop 1 xs → Ticked table controls b zs cs ys cs₁
-        → cs₂ ≡ store (base table i) (outsOf table i ys) cs₁ → Holding table i cs₂ os → Ticked table controls i xs cs os cs₂
-    demand-ticked {b} {zs} {ys} {cs₁} {cs₂} y eb ez a ec h =
-        let body : Ticked table controls (firstAt table i) zs cs ys cs₁ = subst (λ (k : ℕ). Ticked table controls k zs cs ys cs₁) eb a in
+    pub demand-ticked : {b : ℕ} {zs ys cs₁ cs₂ : List ℕ} {told₁ : Bool} → demand (getD xs 0 0) ≡ true → b ≡ firstAt table i → take (32 - 1) zs ≡ drop 1 xs → Ticked table controls b zs cs ys cs₁ told told₁
+        → cs₂ ≡ store (base table i) (outsOf table i ys) cs₁ → told′ ≡ told₁ → Holding table i cs₂ os → Ticked table controls i xs cs os cs₂ told told′
+    demand-ticked {b} {zs} {ys} {cs₁} {cs₂} {told₁} y eb ez a ec et h =
+        let body : Ticked table controls (firstAt table i) zs cs ys cs₁ told told₁ = subst (λ (k : ℕ). Ticked table controls k zs cs ys cs₁ told told₁) eb a in
         let few : ins (leftTree table i) ≤ 31 = omega (arith, ins-more, own .inputs) in
         let given : tailOf (take (ins (tree table i)) xs) ≡ take (ins (leftTree table i)) zs = rest-is xs ∙ ap (take (ins (leftTree table i))) (sym ez) ∙ take-take (ins (leftTree table i)) 31 zs few in
         let stored : cs₂ ≡ store (base table i) (take (outs (leftTree table i)) ys) cs₁ = ec ∙ ap (λ (n : ℕ). store (base table i) (take n ys) cs₁) outs-same in
         record {
+          clips = body .clips;
+          tells = et ∙ body .tells;
           is =
-              ap₂ stepped (h .is ∙ ap₂ (λ (m : ℕ) (l : List ℕ). part (base table i) m l) outs-same stored) stored
+              ap₂ (λ (l m : List ℕ). stepped l m (body .clips)) (h .is ∙ ap₂ (λ (m : ℕ) (l : List ℕ). part (base table i) m l) outs-same stored) stored
               ∙ sym
               (ap (λ (t : Tree). step (base table) t (tick (take (ins (tree table i)) xs) controls) cs) demand-is
-              ∙ demanded-step (base table) i (leftTree table i) (take (ins (tree table i)) xs) controls cs (take (outs (leftTree table i)) ys) cs₁ (ap demand (clock-is xs) ∙ y)
+              ∙ demanded-step (base table) i (leftTree table i) (take (ins (tree table i)) xs) controls cs (take (outs (leftTree table i)) ys) cs₁ (body .clips) (ap demand (clock-is xs) ∙ y)
               (ap (λ (l : Beam). step (base table) (leftTree table i) (tick l controls) cs) given ∙ sym (body .is)));
         }

@@ -44,11 +44,11 @@ side-second g merge l r = refl
 side-second g recursion l r = refl
 
 -- what the sides of a composition leave, one after the other
-sides-below : (base : ℕ → ℕ) (i : ℕ) (c : Composition) (l r : Tree) (f : Tick) (cs ys cs₁ : List ℕ)
-    → step base (firstSide c l r) (firstTick base i c l r f cs) cs ≡ stepped ys cs₁ → (ps : List Probe) (vs : List ℕ)
+sides-below : (base : ℕ → ℕ) (i : ℕ) (c : Composition) (l r : Tree) (f : Tick) (cs ys cs₁ : List ℕ) (o : Bool)
+    → step base (firstSide c l r) (firstTick base i c l r f cs) cs ≡ stepped ys cs₁ o → (ps : List Probe) (vs : List ℕ)
     → zipWith (shown base (secondSide c l r) (secondTick c l r f ys) cs₁) ps (zipWith (shown base (firstSide c l r) (firstTick base i c l r f cs) cs) ps vs)
     ≡ zipWith (below base (join i c l r) f cs) ps vs
-sides-below base i c l r f cs ys cs₁ e ps vs =
+sides-below base i c l r f cs ys cs₁ o e ps vs =
     let x = firstTick base i c l r f cs in
     let S = secondSide c (shown base l) (shown base r) in
     let F = firstSide c (shown base l) (shown base r) in
@@ -136,7 +136,7 @@ Notes marks i ys vs vs′ = (xs : List ℕ) → Probing xs (length vs) → Marke
 
 module _ {table shape controls xs ins cs marks : List ℕ} {k i : ℕ} (ready : Ready table shape) (w : Watching table xs k marks) where
   -- below the node, and then its own outputs
-  pub noted-showed : {ys cs′ vs vs₁ vs₂ : List ℕ} → i < nodes table → length vs₁ ≡ k → Ticked table controls i ins cs ys cs′ → ShowedBelow table controls xs i ins cs vs vs₁ → Notes marks i ys vs₁ vs₂
+  pub noted-showed : {ys cs′ vs vs₁ vs₂ : List ℕ} {told told′ : Bool} → i < nodes table → length vs₁ ≡ k → Ticked table controls i ins cs ys cs′ told told′ → ShowedBelow table controls xs i ins cs vs vs₁ → Notes marks i ys vs₁ vs₂
       → Showed table controls xs i ins cs vs vs₂
   noted-showed {ys} {cs′} {vs} {vs₁} {vs₂} inside l t m notes =
       let T = tree table i in
@@ -183,10 +183,10 @@ module _ {table shape controls xs ins cs marks : List ℕ} {k i : ℕ} (ready : 
               ∙ sym (body-below ready d controls ins cs (probesOf xs) vs);
         }
 
-  pub join-below : {f₁ f₂ : ℕ} {zs ys cs₁ ws vs vs₁ vs₂ : List ℕ} → Joins table i → f₁ ≡ firstChild table i → f₂ ≡ secondChild table i
-      → FirstGiven table i ins cs zs → Ticked table controls f₁ zs cs ys cs₁ → SecondGiven table i ins ys ws
+  pub join-below : {f₁ f₂ : ℕ} {zs ys cs₁ ws vs vs₁ vs₂ : List ℕ} {told told₁ : Bool} → Joins table i → f₁ ≡ firstChild table i → f₂ ≡ secondChild table i
+      → FirstGiven table i ins cs zs → Ticked table controls f₁ zs cs ys cs₁ told told₁ → SecondGiven table i ins ys ws
       → Showed table controls xs f₁ zs cs vs vs₁ → Showed table controls xs f₂ ws cs₁ vs₁ vs₂ → ShowedBelow table controls xs i ins cs vs vs₂
-  join-below {f₁} {f₂} {zs} {ys} {cs₁} {ws} {vs} {vs₁} {vs₂} j ef es first a second ma mb =
+  join-below {f₁} {f₂} {zs} {ys} {cs₁} {ws} {vs} {vs₁} {vs₂} {told} {told₁} j ef es first a second ma mb =
       let c = joining table i in
       let l = leftTree table i in
       let r = rightTree table i in
@@ -199,12 +199,12 @@ module _ {table shape controls xs ins cs marks : List ℕ} {k i : ℕ} (ready : 
       let e₂ : vs₂ ≡ zipWith (shown B (secondSide c l r) (secondTick c l r f ys′) cs₁) (probesOf xs) vs₁ =
       subst (λ (n : ℕ). vs₂ ≡ zipWith (shown B (tree table n) (tick (insOf table n ws) controls) cs₁) (probesOf xs) vs₁) es (mb .is)
       ∙ ap₂ (λ (T : Tree) (u : Beam). zipWith (shown B T (tick u controls) cs₁) (probesOf xs) vs₁) (second-tree table i j) (second .is) in
-      let a′ : Ticked table controls (firstChild table i) zs cs ys cs₁ = subst (λ (n : ℕ). Ticked table controls n zs cs ys cs₁) ef a in
-      let ea : step B (firstSide c l r) (firstTick B i c l r f cs) cs ≡ stepped ys′ cs₁ =
+      let a′ : Ticked table controls (firstChild table i) zs cs ys cs₁ told told₁ = subst (λ (n : ℕ). Ticked table controls n zs cs ys cs₁ told told₁) ef a in
+      let ea : step B (firstSide c l r) (firstTick B i c l r f cs) cs ≡ stepped ys′ cs₁ (a′ .clips) =
       ap₂ (λ (T : Tree) (u : Beam). step B T (tick u controls) cs) (sym (first-tree table i j)) (sym (first .is)) ∙ sym (a′ .is) in
       record {
         is =
             e₂ ∙ ap (zipWith (shown B (secondSide c l r) (secondTick c l r f ys′) cs₁) (probesOf xs)) e₁
-            ∙ sides-below B i c l r f cs ys′ cs₁ ea (probesOf xs) vs
+            ∙ sides-below B i c l r f cs ys′ cs₁ (a′ .clips) ea (probesOf xs) vs
             ∙ ap (λ (T : Tree). zipWith (below B T f cs) (probesOf xs) vs) (sym (ready .node i (j .inside) .isJoin (j .least) (j .most)));
       }

@@ -10,9 +10,8 @@ use lib.ListN.{length, take, drop, drop-of-length-le}
 use lib.Seq.{length-take-le}
 use borrow.Author.Tests.{le-leb, lt-leb}
 use Rattle.word.specs.Choice.{pick, _and_}
-use Rattle.word.specs.Tick.{Stepped, stepped}
-use Rattle.refusal.specs.Answer.{count, refusedAll}
-use Rattle.cells.specs.Block.{ranAs, ticksOf, played, blockOk, answered}
+use Rattle.refusal.specs.Answer.{refusedAll}
+use Rattle.cells.specs.Block.{withReport, ranAs, ticksOf, Played, playedAs, played, blockOk, answered}
 use Rattle.cells.specs.Cells.{store}
 use Rattle.cells.proofs.Calls.{few, block-says}
 use Rattle.cells.proofs.Parts.{store-parts}
@@ -76,16 +75,16 @@ module _ {table shape : List ℕ} {n m k ticks : ℕ} {inputs controls cells out
             room = length-take-le (ticks * probeCount xs) recording (v .recording-fits) ∙ ap (λ x. ticks * x) (sym (length-take-le (probeCount xs) latest (v .latest-fits)));
           }
 
-    pub all-walked : {set ys cs vs zs : List ℕ} → set ≡ controls → played (stepOf table) (ticksOf n set ticks inputs) (take k cells) ≡ stepped ys cs
+    pub all-walked : {set ys cs vs zs : List ℕ} {j : ℕ} → set ≡ controls → played (stepOf table) (ticksOf n set ticks inputs) (take k cells) ≡ playedAs ys cs j
         → recorded (base table) (circuit table) (probesOf xs) (ticksOf n set ticks inputs) (take k cells) (take (probeCount xs) latest) ≡ notedAs vs zs
-        → probedAs (ranAs (count (ticks * m)) (cs ++ drop k cells) (ys ++ drop (ticks * m) outputs)) (vs ++ drop (probeCount xs) latest) (zs ++ drop (ticks * probeCount xs) recording)
+        → probedAs (ranAs (withReport (ticks * m) j) (cs ++ drop k cells) (ys ++ drop (ticks * m) outputs)) (vs ++ drop (probeCount xs) latest) (zs ++ drop (ticks * probeCount xs) recording)
         ≡ watches (nodes table) (circuit table) (probesOf xs) ticks inputs controls cells outputs latest recording
     unfolding watches answered
     all-walked c e f =
         let s = w .surveyed in
         sym
         (rw (count-is xs, ← s .inputs-are, ← s .outputs-are, ← s .cells-are, ← c)
-        (ap₂ (λ (a : Stepped) (b : Noted). probedAs (ranAs (count (ticks * m)) (a .cells ++ drop k cells) (a .outputs ++ drop (ticks * m) outputs)) (b .latest ++ drop (probeCount xs) latest) (b .recording ++ drop (ticks * probeCount xs) recording)) e f))
+        (ap₂ (λ (a : Played) (b : Noted). probedAs (ranAs (withReport (ticks * m) (a .clips)) (a .cells ++ drop k cells) (a .outputs ++ drop (ticks * m) outputs)) (b .latest ++ drop (probeCount xs) latest) (b .recording ++ drop (ticks * probeCount xs) recording)) e f))
 
 -- a list stored over one that is as long
 pub stored-over : (xs ys : List ℕ) → length ys ≡ length xs → store 0 xs ys ≡ xs

@@ -1,10 +1,11 @@
 -- What the walker's functions ask of a table and its survey, all of it promised of an accepted table, and what a step leaves.
 use Prim.Native.Nat.{ℕ, _-_, _*_, _≤_, _<_}
 use mathlib.Core.Path.{_≡_}
+use mathlib.Core.Bool.{Bool}
 use mathlib.Core.List.{List}
 use lib.Dec.{eqb}
 use lib.ListN.{length, take}
-use Rattle.word.specs.Choice.{pick}
+use Rattle.word.specs.Choice.{_or_, pick}
 use Rattle.word.specs.Limits.{mostNodes, controlCount, mostTicks}
 use Rattle.word.specs.Tick.{Beam, Tick, tick, Stepped, stepped}
 use Rattle.cells.specs.Cells.{part}
@@ -86,9 +87,11 @@ pub record Finished (table : List ℕ) (i : ℕ) (ys zs cs os cs′ : List ℕ) 
 pub record Holding (table : List ℕ) (i : ℕ) (cs ys : List ℕ) : Type 0 where
   pub is : outsOf table i ys ≡ part (base table i) (outs (tree table i)) cs
 
--- a tick of node i from the inputs xs and the cells cs leaves the outputs ys and the cells cs′
-pub record Ticked (table controls : List ℕ) (i : ℕ) (xs cs ys cs′ : List ℕ) : Type 0 where
-  pub is : stepped (outsOf table i ys) cs′ ≡ step (base table) (tree table i) (tick (insOf table i xs) controls) cs
+-- a tick of node i from the inputs xs and the cells cs leaves the outputs ys and the cells cs′; told says whether a delay was clipped before it, told′ after
+pub record Ticked (table controls : List ℕ) (i : ℕ) (xs cs ys cs′ : List ℕ) (told told′ : Bool) : Type 0 where
+  pub clips : Bool
+  pub tells : told′ ≡ (told or clips)
+  pub is : stepped (outsOf table i ys) cs′ clips ≡ step (base table) (tree table i) (tick (insOf table i xs) controls) cs
 
 -- one tick of a table's circuit
 abbrev pub stepOf : List ℕ → Tick → List ℕ → Stepped

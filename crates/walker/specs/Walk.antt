@@ -4,9 +4,9 @@ use mathlib.Core.List.{List}
 use lib.Dec.{leb}
 use Rattle.word.specs.Choice.{pick}
 use Rattle.word.specs.Limits.{mostCells}
-use Rattle.refusal.specs.Answer.{Answer, count, refusalOf, refusedAll}
+use Rattle.refusal.specs.Answer.{Answer, refusalOf, refusedAll}
 use Rattle.refusal.specs.Answer.Answer.{counts, refused}
-use Rattle.cells.specs.Block.{Ran, unchanged, refusal, called}
+use Rattle.cells.specs.Block.{withReport, Ran, unchanged, refusal, called}
 use Rattle.arity.specs.Tree.{Tree, ins, outs}
 use Rattle.arity.specs.Table.{nodes, circuit}
 use Rattle.arity.specs.Nodes.{cellsBefore}
@@ -18,7 +18,7 @@ use Rattle.calls.specs.Probed.{Probed, untouched, probed}
 
 -- the document's answer for each case
 abbrev pub answerOf : WalkAnswer → Answer
-answerOf (Samples n) = count n
+answerOf (Samples n k) = withReport n k
 answerOf (Refused r) = refusalOf r
 
 -- 11, then 14 and 12

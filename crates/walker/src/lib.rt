@@ -16,6 +16,7 @@ use probes::mark;
 use probes::note;
 use refusal::Refusal;
 use step::circuit_step;
+use word::bit;
 use word::index;
 use word::limits::CELLS;
 use word::limits::CONTROLS;
@@ -23,9 +24,7 @@ ghost use mathlib.Core.Path.{_≡_};
 ghost use mathlib.Core.List.{List};
 ghost use Prim.Native.Nat.{ℕ, _*_};
 ghost use lib.ListN.{length};
-ghost use Rattle.word.specs.Tick.{stepped};
-ghost use Rattle.refusal.specs.Answer.{count};
-ghost use Rattle.cells.specs.Block.{ranAs, played, ticksOf};
+ghost use Rattle.cells.specs.Block.{withReport, ranAs, playedAs, played, ticksOf};
 ghost use Rattle.arity.specs.Table.{nodes, circuit};
 ghost use Rattle.calls.specs.Probes.{notedAs, recorded};
 ghost use Rattle.calls.specs.Probed.{probesOf, probedAs, watches};
@@ -33,7 +32,7 @@ ghost use Rattle.walker.specs.Ready.{base, stepOf, Playable, Surveyed, W
 ghost use Rattle.walker.specs.Probing.{Watching, Recordable, Watchable};
 ghost use Rattle.walker.specs.Walk.{answerOf, walkedTable, probedCircuit, probedTable};
 
-// The ticks of a call that is not refused, one after another, on the cells and the buffers that it needs and no more.
+// The ticks of a call that is not refused, one after another, on the cells and the buffers that it needs and no more; in how many of them was a delay clipped?
 fn play(
     table: &[u32],
     shape: &[u32; SHAPE],
@@ -48,10 +47,10 @@ fn play(
     marks: &[u8; MARKS],
     latest: &mut [u32],
     recording: &mut [u32],
-)
+) -> u32
     requires { ⌜ Playable (now table) (now shape) root n m ticks (now inputs) (now cells) (now outputs) ⌝ }
     requires { ⌜ Recordable (now table) (now marks) ticks (now latest) (now recording) ⌝ }
-    ensures { λ _. ⌜ played (stepOf (now (table .entry))) (ticksOf n (now (controls .entry)) ticks (now (inputs .entry))) (now (cells .entry)) ≡ stepped (now (outputs .exit)) (now (cells .exit)) ⌝ }
+    ensures { λ r. ⌜ played (stepOf (now (table .entry))) (ticksOf n (now (controls .entry)) ticks (now (inputs .entry))) (now (cells .entry)) ≡ playedAs (now (outputs .exit)) (now (cells .exit)) r ⌝ }
     ensures { λ _. ⌜ ((xs : List ℕ) → Watching (now (table .entry)) xs (length (now (latest .entry))) (now (marks .entry))
         → recorded (base (now (table .entry))) (circuit (now (table .entry))) (probesOf xs) (ticksOf n (now (controls .entry)) ticks (now (inputs .entry))) (now (cells .entry)) (now (latest .entry))
         ≡ notedAs (now (latest .exit)) (now (recording .exit))) ⌝ }
@@ -61,22 +60,36 @@ fn play(
     let mut a: usize = 0;
     let mut b: usize = 0;
     let mut d: usize = 0;
+    let mut clips: u32 = 0;
     while 0 < left {
         let ins = fetched(inputs, a, n);
-        let y = circuit_step(table, shape, root, controls, &ins, cells, marks, latest);
+        let mut told = false;
+        let y = circuit_step(
+            table,
+            shape,
+            root,
+            controls,
+            &ins,
+            cells,
+            marks,
+            latest,
+            &mut told,
+        );
         note(marks, root, y, latest);
         keep(outputs, b, m, y);
         keep_list(recording, d, latest);
+        clips += bit(told);
         a += n;
         b += m;
         d += count;
         left -= 1;
     }
+    clips
 }
 
-// The count of output samples that a call calls for, or its refusal.
+// The count of output samples that a call calls for, with the count of its ticks in which a delay was clipped; or its refusal.
 pub enum WalkAnswer {
-    Samples(u32),
+    Samples { count: u32, clipped: u32 },
     Refused(Refusal),
 }
 
@@ -95,10 +108,10 @@ fn walk_ticks(
     outputs: &mut [u32],
     latest: &mut [u32],
     recording: &mut [u32],
-)
+) -> u32
     requires { ⌜ Walkable (now table) (now shape) n m need ticks (now inputs) (now controls) (now cells) (now outputs) ⌝ }
     requires { ⌜ Watchable (now table) (now probes) ticks (now latest) (now recording) ⌝ }
-    ensures { λ _. ⌜ probedAs (ranAs (count (ticks * m)) (now (cells .exit)) (now (outputs .exit))) (now (latest .exit)) (now (recording .exit))
+    ensures { λ r. ⌜ probedAs (ranAs (withReport (ticks * m) r) (now (cells .exit)) (now (outputs .exit))) (now (latest .exit)) (now (recording .exit))
         ≡ watches (nodes (now (table .entry))) (circuit (now (table .entry))) (probesOf (now (probes .entry))) ticks (now (inputs .entry)) (now (controls .entry)) (now (cells .entry)) (now (outputs .entry)) (now (latest .entry)) (now (recording .entry)) ⌝ }
 {
     let mut set = [0u32; CONTROLS];
@@ -123,7 +136,7 @@ fn walk_ticks(
         &marks,
         &mut latest[..watched],
         &mut recording[..all],
-    );
+    )
 }
 
 // A call for an accepted table: refusal 11, then 14, 15 and 12; else its ticks.
@@ -166,7 +179,7 @@ fn walk_circuit(
     if latest.len() < watched || recording.len() < t * watched {
         return WalkAnswer::Refused(Refusal::ShortBuffer);
     }
-    walk_ticks(
+    let clipped = walk_ticks(
         table,
         shape,
         index(n),
@@ -181,7 +194,10 @@ fn walk_circuit(
         latest,
         recording,
     );
-    WalkAnswer::Samples(total as u32)
+    WalkAnswer::Samples {
+        count: total as u32,
+        clipped,
+    }
 }
 
 // One call with probes, with any table: the table's refusals, then 11, 14, 15 and 12; else its output samples, the cells after them, what the probes show at

@@ -15,6 +15,7 @@ use beam::fetched;
 use beam::keep;
 use beam::one;
 use cells::delay_at;
+use cells::tell;
 use probes::MARKS;
 use probes::note;
 use word::demand;
@@ -53,7 +54,7 @@ fn input_at(ins: &[u32; BEAM], n: usize, at: usize) -> u32
     ins[at]
 }
 
-// One tick of a primitive.
+// One tick of a primitive; a delay tells whether it was clipped.
 fn leaf_step(
     table: &[u32],
     shape: &[u32; SHAPE],
@@ -61,12 +62,13 @@ fn leaf_step(
     controls: &[u32; CONTROLS],
     ins: &[u32; BEAM],
     cells: &mut [u32],
+    told: &mut bool,
 ) -> [u32; BEAM]
     requires { ⌜ Ready (now table) (now shape) ⌝ }
     requires { ⌜ Inside (now table) node ⌝ }
     requires { ⌜ kindAt (now table) node ≤ 6 ⌝ }
     requires { ⌜ Roomy (now table) (length (now cells)) ⌝ }
-    ensures { λ r. ⌜ Ticked (now (table .entry)) (now (controls .entry)) node (now (ins .entry)) (now (cells .entry)) r (now (cells .exit)) ⌝ }
+    ensures { λ r. ⌜ Ticked (now (table .entry)) (now (controls .entry)) node (now (ins .entry)) (now (cells .entry)) r (now (cells .exit)) (now (told .entry)) (now (told .exit)) ⌝ }
 {
     let kind = kind_of(table, node);
     let value = first_of(table, node);
@@ -93,6 +95,7 @@ fn leaf_step(
             input_at(ins, n, 0),
             input_at(ins, n, 1),
         );
+        tell(told, delayed.clipped);
         return one(delayed.value);
     }
     if kind == 5 {
@@ -132,29 +135,60 @@ pub fn circuit_step(
     cells: &mut [u32],
     marks: &[u8; MARKS],
     latest: &mut [u32],
+    told: &mut bool,
 ) -> [u32; BEAM]
     requires { ⌜ Ready (now table) (now shape) ⌝ }
     requires { ⌜ Inside (now table) node ⌝ }
     requires { ⌜ Roomy (now table) (length (now cells)) ⌝ }
     requires { ⌜ Watched (now table) (length (now latest)) (now marks) ⌝ }
-    ensures { λ r. ⌜ Ticked (now (table .entry)) (now (controls .entry)) node (now (ins .entry)) (now (cells .entry)) r (now (cells .exit)) ⌝ }
+    ensures { λ r. ⌜ Ticked (now (table .entry)) (now (controls .entry)) node (now (ins .entry)) (now (cells .entry)) r (now (cells .exit)) (now (told .entry)) (now (told .exit)) ⌝ }
     ensures { λ _. ⌜ ((xs : List ℕ) → Watching (now (table .entry)) xs (length (now (latest .entry))) (now (marks .entry))
         → ShowedBelow (now (table .entry)) (now (controls .entry)) xs node (now (ins .entry)) (now (cells .entry)) (now (latest .entry)) (now (latest .exit))) ⌝ }
 {
     let kind = kind_of(table, node);
     if kind <= 6 {
-        return leaf_step(table, shape, node, controls, ins, cells);
+        return leaf_step(table, shape, node, controls, ins, cells, told);
     }
     if kind == 12 {
-        return demand_step(table, shape, node, controls, ins, cells, marks, latest);
+        return demand_step(
+            table,
+            shape,
+            node,
+            controls,
+            ins,
+            cells,
+            marks,
+            latest,
+            told,
+        );
     }
     let first = first_child(table, node);
     let second = second_child(table, node);
     let x = first_input(table, shape, node, *ins, cells);
-    let y = circuit_step(table, shape, first, controls, &x, cells, marks, latest);
+    let y = circuit_step(
+        table,
+        shape,
+        first,
+        controls,
+        &x,
+        cells,
+        marks,
+        latest,
+        told,
+    );
     note(marks, first, y, latest);
     let w = second_input(table, shape, node, *ins, y);
-    let z = circuit_step(table, shape, second, controls, &w, cells, marks, latest);
+    let z = circuit_step(
+        table,
+        shape,
+        second,
+        controls,
+        &w,
+        cells,
+        marks,
+        latest,
+        told,
+    );
     note(marks, second, z, latest);
     finish(table, shape, node, y, z, cells)
 }
@@ -169,19 +203,20 @@ fn demand_step(
     cells: &mut [u32],
     marks: &[u8; MARKS],
     latest: &mut [u32],
+    told: &mut bool,
 ) -> [u32; BEAM]
     requires { ⌜ Ready (now table) (now shape) ⌝ }
     requires { ⌜ Demands (now table) node ⌝ }
     requires { ⌜ Roomy (now table) (length (now cells)) ⌝ }
     requires { ⌜ Watched (now table) (length (now latest)) (now marks) ⌝ }
-    ensures { λ r. ⌜ Ticked (now (table .entry)) (now (controls .entry)) node (now (ins .entry)) (now (cells .entry)) r (now (cells .exit)) ⌝ }
+    ensures { λ r. ⌜ Ticked (now (table .entry)) (now (controls .entry)) node (now (ins .entry)) (now (cells .entry)) r (now (cells .exit)) (now (told .entry)) (now (told .exit)) ⌝ }
     ensures { λ _. ⌜ ((xs : List ℕ) → Watching (now (table .entry)) xs (length (now (latest .entry))) (now (marks .entry))
         → ShowedBelow (now (table .entry)) (now (controls .entry)) xs node (now (ins .entry)) (now (cells .entry)) (now (latest .entry)) (now (latest .exit))) ⌝ }
 {
     if demand(ins[0]) {
         let body = index(first_of(table, node));
         let x = after(*ins, 1);
-        let y = circuit_step(table, shape, body, controls, &x, cells, marks, latest);
+        let y = circuit_step(table, shape, body, controls, &x, cells, marks, latest, told);
         note(marks, body, y, latest);
         hold(table, shape, node, y, cells);
     }

@@ -37,23 +37,23 @@ use Rattle.word.proofs.index.Reads as index
 use Rattle.walker.proofs.step.+circuit_step+demand_step.{statement}
 use Rattle.walker.proofs.step.+circuit_step+demand_step.Tie.{close}
 
-abbrev μ-circuit : Measures 7 circuit-kinds.ps ℕ
+abbrev μ-circuit : Measures 8 circuit-kinds.ps ℕ
 μ-circuit κs a = 2 * a .1 .1 .0 + 1
 
-abbrev μ-demand : Measures 7 demand-kinds.ps ℕ
+abbrev μ-demand : Measures 8 demand-kinds.ps ℕ
 μ-demand κs a = 2 * a .1 .1 .0
 
-abbrev circuit-at : ℕ → In 7 circuit-kinds.ps
-circuit-at t = and 7 circuit-kinds.ps (is 7 circuit-kinds.ps μ-circuit t) circuit.Pre
+abbrev circuit-at : ℕ → In 8 circuit-kinds.ps
+circuit-at t = and 8 circuit-kinds.ps (is 8 circuit-kinds.ps μ-circuit t) circuit.Pre
 
-abbrev circuit-below : ℕ → In 7 circuit-kinds.ps
-circuit-below t = and 7 circuit-kinds.ps (falls 7 circuit-kinds.ps _<_ μ-circuit t) circuit.Pre
+abbrev circuit-below : ℕ → In 8 circuit-kinds.ps
+circuit-below t = and 8 circuit-kinds.ps (falls 8 circuit-kinds.ps _<_ μ-circuit t) circuit.Pre
 
-abbrev demand-at : ℕ → In 7 demand-kinds.ps
-demand-at t = and 7 demand-kinds.ps (is 7 demand-kinds.ps μ-demand t) demand.Pre
+abbrev demand-at : ℕ → In 8 demand-kinds.ps
+demand-at t = and 8 demand-kinds.ps (is 8 demand-kinds.ps μ-demand t) demand.Pre
 
-abbrev demand-below : ℕ → In 7 demand-kinds.ps
-demand-below t = and 7 demand-kinds.ps (falls 7 demand-kinds.ps _<_ μ-demand t) demand.Pre
+abbrev demand-below : ℕ → In 8 demand-kinds.ps
+demand-below t = and 8 demand-kinds.ps (falls 8 demand-kinds.ps _<_ μ-demand t) demand.Pre
 
 abbrev circuit-calls : ℕ → circuit-lts.Claims
 circuit-calls t = (
@@ -109,16 +109,16 @@ module _ (t : ℕ) where
   circuit-kind-of-requires c κs = c .before .before .before .pre .1 .1 .0 .inside
 
   circuit-leaf-step-requires : circuit-lts.Need-leaf-step-requires (circuit-calls t) (circuit-at t) circuit.Post
-  circuit-leaf-step-requires c κs = (c .before .before .before .before .before .before .pre .1 .0, (c .before .before .before .before .before .before .pre .1 .1 .0, (subst (λ (k : ℕ). k ≤ 6) (c .before .before .kind-of .ensures) (c .before .if1 .taken), c .before .before .before .before .before .before .pre .1 .1 .1 .0)))
+  circuit-leaf-step-requires c κs = (c .before .before .before .before .before .before .before .pre .1 .0, (c .before .before .before .before .before .before .before .pre .1 .1 .0, (subst (λ (k : ℕ). k ≤ 6) (c .before .before .before .kind-of .ensures) (c .before .before .if1 .taken), c .before .before .before .before .before .before .before .pre .1 .1 .1 .0)))
 
   circuit-same-length : circuit-lts.Need-same-length (circuit-calls t) (circuit-at t) circuit.Post
   circuit-same-length c = c .before .before .leaf-step .kept .1 .1 .1 .1 .1 .0
 
   circuit-returns : circuit-lts.Need-returns (circuit-calls t) (circuit-at t) circuit.Post
-  circuit-returns c = (c .before .before .leaf-step .ensures, λ xs w. leaf-below (c .before .before .before .before .before .before .before .before .before .pre .1 .0) w refl (c .before .before .before .before .before .before .before .before .before .pre .1 .1 .0 .inside) (subst (λ (k : ℕ). k ≤ 6) (c .before .before .before .before .before .kind-of .ensures) (c .before .before .before .before .if1 .taken)))
+  circuit-returns c = (c .before .before .leaf-step .ensures, λ xs w. leaf-below (c .before .before .before .before .before .before .before .before .before .before .pre .1 .0) w refl (c .before .before .before .before .before .before .before .before .before .before .pre .1 .1 .0 .inside) (subst (λ (k : ℕ). k ≤ 6) (c .before .before .before .before .before .before .kind-of .ensures) (c .before .before .before .before .before .if1 .taken)))
 
   circuit-demand-step-requires : circuit-lts.Need-demand-step-requires (circuit-calls t) (circuit-at t) circuit.Post
-  circuit-demand-step-requires c κs = (omega (arith, c .before .before .before .before .before .before .before .before .pre .0), (c .before .before .before .before .before .before .before .before .pre .1 .0, (record { inside = c .before .before .before .before .before .before .before .before .pre .1 .1 .0 .inside; kind = sym (c .before .before .before .before .kind-of .ensures) ∙ c .before .before .if2 .taken }, (c .before .before .before .before .before .before .before .before .pre .1 .1 .1 .0, c .before .before .before .before .before .before .before .before .pre .1 .1 .1 .1))))
+  circuit-demand-step-requires c κs = (omega (arith, c .before .before .before .before .before .before .before .before .before .pre .0), (c .before .before .before .before .before .before .before .before .before .pre .1 .0, (record { inside = c .before .before .before .before .before .before .before .before .before .pre .1 .1 .0 .inside; kind = sym (c .before .before .before .before .before .kind-of .ensures) ∙ c .before .before .before .if2 .taken }, (c .before .before .before .before .before .before .before .before .before .pre .1 .1 .1 .0, c .before .before .before .before .before .before .before .before .before .pre .1 .1 .1 .1))))
 
   circuit-same-length-2 : circuit-lts.Need-same-length-2 (circuit-calls t) (circuit-at t) circuit.Post
   circuit-same-length-2 c = c .before .before .before .before .demand-step .kept .1 .1 .1 .1 .1 .0
@@ -140,40 +140,40 @@ module _ (t : ℕ) where
 
   circuit-circuit-step-requires : circuit-lts.Need-circuit-step-requires (circuit-calls t) (circuit-at t) circuit.Post
   circuit-circuit-step-requires c κs =
-      let lower = first-below (c .before .before .before .before .before .before .before .before .before .before .before .before .before .before .pre .1 .0) (joining (c .before .before .before .before .before .before .before .before)) (c .before .before .before .before .before .before .before .first-child .ensures) in
-      (omega (arith, c .before .before .before .before .before .before .before .before .before .before .before .before .before .before .pre .0, lower), (c .before .before .before .before .before .before .before .before .before .before .before .before .before .before .pre .1 .0, (record { inside = omega (arith, lower, c .before .before .before .before .before .before .before .before .before .before .before .before .before .before .pre .1 .1 .0 .inside) }, (c .before .before .before .before .before .before .before .before .before .before .before .before .before .before .pre .1 .1 .1 .0, c .before .before .before .before .before .before .before .before .before .before .before .before .before .before .pre .1 .1 .1 .1))))
+      let lower = first-below (c .before .before .before .before .before .before .before .before .before .before .before .before .before .before .before .pre .1 .0) (joining (c .before .before .before .before .before .before .before .before .before)) (c .before .before .before .before .before .before .before .before .first-child .ensures) in
+      (omega (arith, c .before .before .before .before .before .before .before .before .before .before .before .before .before .before .before .pre .0, lower), (c .before .before .before .before .before .before .before .before .before .before .before .before .before .before .before .pre .1 .0, (record { inside = omega (arith, lower, c .before .before .before .before .before .before .before .before .before .before .before .before .before .before .before .pre .1 .1 .0 .inside) }, (c .before .before .before .before .before .before .before .before .before .before .before .before .before .before .before .pre .1 .1 .1 .0, c .before .before .before .before .before .before .before .before .before .before .before .before .before .before .before .pre .1 .1 .1 .1))))
 
   circuit-note-requires : circuit-lts.Need-note-requires (circuit-calls t) (circuit-at t) circuit.Post
-  circuit-note-requires c κs = noting (c .before .before .before .before .before .before .before .before .before .before .before .before .before .before .before .before .before .before .before .before .pre .1 .0) (watched-kept (c .before .before .before .before .before .before .before .before .before .before .before .before .before .before .before .before .before .before .before .before .pre .1 .1 .1 .1) (c .before .before .before .before .before .circuit-step .kept .1 .1 .1 .1 .1 .1 .1 .0)) (omega (arith, first-below (c .before .before .before .before .before .before .before .before .before .before .before .before .before .before .before .before .before .before .before .before .pre .1 .0) (joining (c .before .before .before .before .before .before .before .before .before .before .before .before .before .before)) (c .before .before .before .before .before .before .before .before .before .before .before .before .before .first-child .ensures), c .before .before .before .before .before .before .before .before .before .before .before .before .before .before .before .before .before .before .before .before .pre .1 .1 .0 .inside))
+  circuit-note-requires c κs = noting (c .before .before .before .before .before .before .before .before .before .before .before .before .before .before .before .before .before .before .before .before .before .pre .1 .0) (watched-kept (c .before .before .before .before .before .before .before .before .before .before .before .before .before .before .before .before .before .before .before .before .before .pre .1 .1 .1 .1) (c .before .before .before .before .before .circuit-step .kept .1 .1 .1 .1 .1 .1 .1 .0)) (omega (arith, first-below (c .before .before .before .before .before .before .before .before .before .before .before .before .before .before .before .before .before .before .before .before .before .pre .1 .0) (joining (c .before .before .before .before .before .before .before .before .before .before .before .before .before .before .before)) (c .before .before .before .before .before .before .before .before .before .before .before .before .before .before .first-child .ensures), c .before .before .before .before .before .before .before .before .before .before .before .before .before .before .before .before .before .before .before .before .before .pre .1 .1 .0 .inside))
 
   circuit-second-input-requires : circuit-lts.Need-second-input-requires (circuit-calls t) (circuit-at t) circuit.Post
-  circuit-second-input-requires c κs = (c .before .before .before .before .before .before .before .before .before .before .before .before .before .before .before .before .before .before .before .before .before .before .before .before .pre .1 .0, joining (c .before .before .before .before .before .before .before .before .before .before .before .before .before .before .before .before .before .before))
+  circuit-second-input-requires c κs = (c .before .before .before .before .before .before .before .before .before .before .before .before .before .before .before .before .before .before .before .before .before .before .before .before .before .pre .1 .0, joining (c .before .before .before .before .before .before .before .before .before .before .before .before .before .before .before .before .before .before .before))
 
   circuit-circuit-step-requires-2 : circuit-lts.Need-circuit-step-requires-2 (circuit-calls t) (circuit-at t) circuit.Post
   circuit-circuit-step-requires-2 c κs =
-      let lower = second-below (c .before .before .before .before .before .before .before .before .before .before .before .before .before .before .before .before .before .before .before .before .before .before .before .before .before .before .before .before .pre .1 .0) (joining (c .before .before .before .before .before .before .before .before .before .before .before .before .before .before .before .before .before .before .before .before .before .before)) (c .before .before .before .before .before .before .before .before .before .before .before .before .before .before .before .before .before .before .before .before .second-child .ensures) in
-      (omega (arith, c .before .before .before .before .before .before .before .before .before .before .before .before .before .before .before .before .before .before .before .before .before .before .before .before .before .before .before .before .pre .0, lower), (c .before .before .before .before .before .before .before .before .before .before .before .before .before .before .before .before .before .before .before .before .before .before .before .before .before .before .before .before .pre .1 .0, (record { inside = omega (arith, lower, c .before .before .before .before .before .before .before .before .before .before .before .before .before .before .before .before .before .before .before .before .before .before .before .before .before .before .before .before .pre .1 .1 .0 .inside) }, (roomy (c .before .before .before .before .before .before .before .before .before .before .before .before .before .before .before .before .before .before .before .before .before .before .before .before .before .before .before .before .args .table .now) (c .before .before .before .before .before .before .before .before .before .before .before .before .before .before .before .before .before .before .before .before .before .before .before .before .before .before .before .before .pre .1 .1 .1 .0) (c .before .before .before .before .before .before .before .before .before .before .before .before .before .circuit-step .kept .1 .1 .1 .1 .1 .0), watched-kept (c .before .before .before .before .before .before .before .before .before .before .before .before .before .before .before .before .before .before .before .before .before .before .before .before .before .before .before .before .pre .1 .1 .1 .1) (c .before .before .before .before .before .before .before .note .kept .1 .1 .1 .0 ∙ c .before .before .before .before .before .before .before .before .before .before .before .before .before .circuit-step .kept .1 .1 .1 .1 .1 .1 .1 .0)))))
+      let lower = second-below (c .before .before .before .before .before .before .before .before .before .before .before .before .before .before .before .before .before .before .before .before .before .before .before .before .before .before .before .before .before .before .pre .1 .0) (joining (c .before .before .before .before .before .before .before .before .before .before .before .before .before .before .before .before .before .before .before .before .before .before .before .before)) (c .before .before .before .before .before .before .before .before .before .before .before .before .before .before .before .before .before .before .before .before .before .before .second-child .ensures) in
+      (omega (arith, c .before .before .before .before .before .before .before .before .before .before .before .before .before .before .before .before .before .before .before .before .before .before .before .before .before .before .before .before .before .before .pre .0, lower), (c .before .before .before .before .before .before .before .before .before .before .before .before .before .before .before .before .before .before .before .before .before .before .before .before .before .before .before .before .before .before .pre .1 .0, (record { inside = omega (arith, lower, c .before .before .before .before .before .before .before .before .before .before .before .before .before .before .before .before .before .before .before .before .before .before .before .before .before .before .before .before .before .before .pre .1 .1 .0 .inside) }, (roomy (c .before .before .before .before .before .before .before .before .before .before .before .before .before .before .before .before .before .before .before .before .before .before .before .before .before .before .before .before .before .before .args .table .now) (c .before .before .before .before .before .before .before .before .before .before .before .before .before .before .before .before .before .before .before .before .before .before .before .before .before .before .before .before .before .before .pre .1 .1 .1 .0) (c .before .before .before .before .before .before .before .before .before .before .before .before .before .before .circuit-step .kept .1 .1 .1 .1 .1 .0), watched-kept (c .before .before .before .before .before .before .before .before .before .before .before .before .before .before .before .before .before .before .before .before .before .before .before .before .before .before .before .before .before .before .pre .1 .1 .1 .1) (c .before .before .before .before .before .before .before .before .note .kept .1 .1 .1 .0 ∙ c .before .before .before .before .before .before .before .before .before .before .before .before .before .before .circuit-step .kept .1 .1 .1 .1 .1 .1 .1 .0)))))
 
   circuit-note-requires-2 : circuit-lts.Need-note-requires-2 (circuit-calls t) (circuit-at t) circuit.Post
-  circuit-note-requires-2 c κs = noting (c .before .before .before .before .before .before .before .before .before .before .before .before .before .before .before .before .before .before .before .before .before .before .before .before .before .before .before .before .before .before .before .before .before .before .pre .1 .0) (watched-kept (c .before .before .before .before .before .before .before .before .before .before .before .before .before .before .before .before .before .before .before .before .before .before .before .before .before .before .before .before .before .before .before .before .before .before .pre .1 .1 .1 .1) (c .before .before .before .before .before .circuit-step2 .kept .1 .1 .1 .1 .1 .1 .1 .0 ∙ c .before .before .before .before .before .before .before .before .before .before .before .before .before .note .kept .1 .1 .1 .0 ∙ c .before .before .before .before .before .before .before .before .before .before .before .before .before .before .before .before .before .before .before .circuit-step .kept .1 .1 .1 .1 .1 .1 .1 .0)) (omega (arith, second-below (c .before .before .before .before .before .before .before .before .before .before .before .before .before .before .before .before .before .before .before .before .before .before .before .before .before .before .before .before .before .before .before .before .before .before .pre .1 .0) (joining (c .before .before .before .before .before .before .before .before .before .before .before .before .before .before .before .before .before .before .before .before .before .before .before .before .before .before .before .before)) (c .before .before .before .before .before .before .before .before .before .before .before .before .before .before .before .before .before .before .before .before .before .before .before .before .before .before .second-child .ensures), c .before .before .before .before .before .before .before .before .before .before .before .before .before .before .before .before .before .before .before .before .before .before .before .before .before .before .before .before .before .before .before .before .before .before .pre .1 .1 .0 .inside))
+  circuit-note-requires-2 c κs = noting (c .before .before .before .before .before .before .before .before .before .before .before .before .before .before .before .before .before .before .before .before .before .before .before .before .before .before .before .before .before .before .before .before .before .before .before .before .pre .1 .0) (watched-kept (c .before .before .before .before .before .before .before .before .before .before .before .before .before .before .before .before .before .before .before .before .before .before .before .before .before .before .before .before .before .before .before .before .before .before .before .before .pre .1 .1 .1 .1) (c .before .before .before .before .before .circuit-step2 .kept .1 .1 .1 .1 .1 .1 .1 .0 ∙ c .before .before .before .before .before .before .before .before .before .before .before .before .before .before .note .kept .1 .1 .1 .0 ∙ c .before .before .before .before .before .before .before .before .before .before .before .before .before .before .before .before .before .before .before .before .circuit-step .kept .1 .1 .1 .1 .1 .1 .1 .0)) (omega (arith, second-below (c .before .before .before .before .before .before .before .before .before .before .before .before .before .before .before .before .before .before .before .before .before .before .before .before .before .before .before .before .before .before .before .before .before .before .before .before .pre .1 .0) (joining (c .before .before .before .before .before .before .before .before .before .before .before .before .before .before .before .before .before .before .before .before .before .before .before .before .before .before .before .before .before .before)) (c .before .before .before .before .before .before .before .before .before .before .before .before .before .before .before .before .before .before .before .before .before .before .before .before .before .before .before .before .second-child .ensures), c .before .before .before .before .before .before .before .before .before .before .before .before .before .before .before .before .before .before .before .before .before .before .before .before .before .before .before .before .before .before .before .before .before .before .before .before .pre .1 .1 .0 .inside))
 
   circuit-finish-requires : circuit-lts.Need-finish-requires (circuit-calls t) (circuit-at t) circuit.Post
-  circuit-finish-requires c κs = (c .before .before .before .before .before .before .before .before .before .before .before .before .before .before .before .before .before .before .before .before .before .before .before .before .before .before .before .before .before .before .before .before .before .before .before .before .before .before .pre .1 .0, (joining (c .before .before .before .before .before .before .before .before .before .before .before .before .before .before .before .before .before .before .before .before .before .before .before .before .before .before .before .before .before .before .before .before), roomy (c .before .before .before .before .before .before .before .before .before .before .before .before .before .before .before .before .before .before .before .before .before .before .before .before .before .before .before .before .before .before .before .before .before .before .before .before .before .before .args .table .now) (c .before .before .before .before .before .before .before .before .before .before .before .before .before .before .before .before .before .before .before .before .before .before .before .before .before .before .before .before .before .before .before .before .before .before .before .before .before .before .pre .1 .1 .1 .0) (c .before .before .before .before .before .before .before .before .before .circuit-step2 .kept .1 .1 .1 .1 .1 .0 ∙ c .before .before .before .before .before .before .before .before .before .before .before .before .before .before .before .before .before .before .before .before .before .before .before .circuit-step .kept .1 .1 .1 .1 .1 .0)))
+  circuit-finish-requires c κs = (c .before .before .before .before .before .before .before .before .before .before .before .before .before .before .before .before .before .before .before .before .before .before .before .before .before .before .before .before .before .before .before .before .before .before .before .before .before .before .before .before .pre .1 .0, (joining (c .before .before .before .before .before .before .before .before .before .before .before .before .before .before .before .before .before .before .before .before .before .before .before .before .before .before .before .before .before .before .before .before .before .before), roomy (c .before .before .before .before .before .before .before .before .before .before .before .before .before .before .before .before .before .before .before .before .before .before .before .before .before .before .before .before .before .before .before .before .before .before .before .before .before .before .before .before .args .table .now) (c .before .before .before .before .before .before .before .before .before .before .before .before .before .before .before .before .before .before .before .before .before .before .before .before .before .before .before .before .before .before .before .before .before .before .before .before .before .before .before .before .pre .1 .1 .1 .0) (c .before .before .before .before .before .before .before .before .before .circuit-step2 .kept .1 .1 .1 .1 .1 .0 ∙ c .before .before .before .before .before .before .before .before .before .before .before .before .before .before .before .before .before .before .before .before .before .before .before .before .circuit-step .kept .1 .1 .1 .1 .1 .0)))
 
   circuit-same-length-4 : circuit-lts.Need-same-length-4 (circuit-calls t) (circuit-at t) circuit.Post
-  circuit-same-length-4 c = c .before .before .finish .kept .1 .1 .1 .1 .1 .0 ∙ c .before .before .before .before .before .before .before .before .before .before .before .before .circuit-step2 .kept .1 .1 .1 .1 .1 .0 ∙ c .before .before .before .before .before .before .before .before .before .before .before .before .before .before .before .before .before .before .before .before .before .before .before .before .before .before .circuit-step .kept .1 .1 .1 .1 .1 .0
+  circuit-same-length-4 c = c .before .before .finish .kept .1 .1 .1 .1 .1 .0 ∙ c .before .before .before .before .before .before .before .before .before .before .before .before .circuit-step2 .kept .1 .1 .1 .1 .1 .0 ∙ c .before .before .before .before .before .before .before .before .before .before .before .before .before .before .before .before .before .before .before .before .before .before .before .before .before .before .before .circuit-step .kept .1 .1 .1 .1 .1 .0
 
   circuit-same-length-5 : circuit-lts.Need-same-length-5 (circuit-calls t) (circuit-at t) circuit.Post
-  circuit-same-length-5 c = c .before .before .before .before .before .before .note2 .kept .1 .1 .1 .0 ∙ c .before .before .before .before .before .before .before .before .before .before .before .before .circuit-step2 .kept .1 .1 .1 .1 .1 .1 .1 .0 ∙ c .before .before .before .before .before .before .before .before .before .before .before .before .before .before .before .before .before .before .before .before .note .kept .1 .1 .1 .0 ∙ c .before .before .before .before .before .before .before .before .before .before .before .before .before .before .before .before .before .before .before .before .before .before .before .before .before .before .circuit-step .kept .1 .1 .1 .1 .1 .1 .1 .0
+  circuit-same-length-5 c = c .before .before .before .before .before .before .note2 .kept .1 .1 .1 .0 ∙ c .before .before .before .before .before .before .before .before .before .before .before .before .circuit-step2 .kept .1 .1 .1 .1 .1 .1 .1 .0 ∙ c .before .before .before .before .before .before .before .before .before .before .before .before .before .before .before .before .before .before .before .before .before .note .kept .1 .1 .1 .0 ∙ c .before .before .before .before .before .before .before .before .before .before .before .before .before .before .before .before .before .before .before .before .before .before .before .before .before .before .before .circuit-step .kept .1 .1 .1 .1 .1 .1 .1 .0
 
   circuit-returns-3 : circuit-lts.Need-returns-3 (circuit-calls t) (circuit-at t) circuit.Post
   circuit-returns-3 c = (
-    join-ticked (c .before .before .before .before .before .before .before .before .before .before .before .before .before .before .before .before .before .before .before .before .before .before .before .before .before .before .before .before .before .before .before .before .before .before .before .before .before .before .before .before .before .pre .1 .0) (joining (c .before .before .before .before .before .before .before .before .before .before .before .before .before .before .before .before .before .before .before .before .before .before .before .before .before .before .before .before .before .before .before .before .before .before .before)) (c .before .before .before .before .before .before .before .before .before .before .before .before .before .before .before .before .before .before .before .before .before .before .before .before .before .before .before .before .before .before .before .before .before .before .first-child .ensures) (c .before .before .before .before .before .before .before .before .before .before .before .before .before .before .before .before .before .before .before .before .before .before .before .before .before .before .before .before .before .before .before .before .before .second-child .ensures) (c .before .before .before .before .before .before .before .before .before .before .before .before .before .before .before .before .before .before .before .before .before .before .before .before .before .before .before .before .before .before .first-input .ensures) (c .before .before .before .before .before .before .before .before .before .before .before .before .before .before .before .before .before .before .before .before .before .before .before .before .before .before .circuit-step .ensures .0) (c .before .before .before .before .before .before .before .before .before .before .before .before .before .before .before .before .second-input .ensures) (c .before .before .before .before .before .before .before .before .before .before .before .before .circuit-step2 .ensures .0) (c .before .before .finish .ensures),
+    join-ticked (c .before .before .before .before .before .before .before .before .before .before .before .before .before .before .before .before .before .before .before .before .before .before .before .before .before .before .before .before .before .before .before .before .before .before .before .before .before .before .before .before .before .before .before .pre .1 .0) (joining (c .before .before .before .before .before .before .before .before .before .before .before .before .before .before .before .before .before .before .before .before .before .before .before .before .before .before .before .before .before .before .before .before .before .before .before .before .before)) (c .before .before .before .before .before .before .before .before .before .before .before .before .before .before .before .before .before .before .before .before .before .before .before .before .before .before .before .before .before .before .before .before .before .before .before .before .first-child .ensures) (c .before .before .before .before .before .before .before .before .before .before .before .before .before .before .before .before .before .before .before .before .before .before .before .before .before .before .before .before .before .before .before .before .before .before .before .second-child .ensures) (c .before .before .before .before .before .before .before .before .before .before .before .before .before .before .before .before .before .before .before .before .before .before .before .before .before .before .before .before .before .before .before .before .first-input .ensures) (c .before .before .before .before .before .before .before .before .before .before .before .before .before .before .before .before .before .before .before .before .before .before .before .before .before .before .before .circuit-step .ensures .0) (c .before .before .before .before .before .before .before .before .before .before .before .before .before .before .before .before .before .second-input .ensures) (c .before .before .before .before .before .before .before .before .before .before .before .before .circuit-step2 .ensures .0) (c .before .before .finish .ensures),
     λ xs w.
-        let w₁ = watching-kept w (c .before .before .before .before .before .before .before .before .before .before .before .before .before .before .before .before .before .before .before .before .note .kept .1 .1 .1 .0 ∙ c .before .before .before .before .before .before .before .before .before .before .before .before .before .before .before .before .before .before .before .before .before .before .before .before .before .before .circuit-step .kept .1 .1 .1 .1 .1 .1 .1 .0) in
-        let first = noted-showed (c .before .before .before .before .before .before .before .before .before .before .before .before .before .before .before .before .before .before .before .before .before .before .before .before .before .before .before .before .before .before .before .before .before .before .before .before .before .before .before .before .before .pre .1 .0) w (omega (arith, first-below (c .before .before .before .before .before .before .before .before .before .before .before .before .before .before .before .before .before .before .before .before .before .before .before .before .before .before .before .before .before .before .before .before .before .before .before .before .before .before .before .before .before .pre .1 .0) (joining (c .before .before .before .before .before .before .before .before .before .before .before .before .before .before .before .before .before .before .before .before .before .before .before .before .before .before .before .before .before .before .before .before .before .before .before)) (c .before .before .before .before .before .before .before .before .before .before .before .before .before .before .before .before .before .before .before .before .before .before .before .before .before .before .before .before .before .before .before .before .before .before .first-child .ensures), c .before .before .before .before .before .before .before .before .before .before .before .before .before .before .before .before .before .before .before .before .before .before .before .before .before .before .before .before .before .before .before .before .before .before .before .before .before .before .before .before .before .pre .1 .1 .0 .inside)) (c .before .before .before .before .before .before .before .before .before .before .before .before .before .before .before .before .before .before .before .before .before .before .before .before .before .before .circuit-step .kept .1 .1 .1 .1 .1 .1 .1 .0) (c .before .before .before .before .before .before .before .before .before .before .before .before .before .before .before .before .before .before .before .before .before .before .before .before .before .before .circuit-step .ensures .0) (c .before .before .before .before .before .before .before .before .before .before .before .before .before .before .before .before .before .before .before .before .before .before .before .before .before .before .circuit-step .ensures .1 xs w) (c .before .before .before .before .before .before .before .before .before .before .before .before .before .before .before .before .before .before .before .before .note .ensures) in
-        let second = noted-showed (c .before .before .before .before .before .before .before .before .before .before .before .before .before .before .before .before .before .before .before .before .before .before .before .before .before .before .before .before .before .before .before .before .before .before .before .before .before .before .before .before .before .pre .1 .0) w₁ (omega (arith, second-below (c .before .before .before .before .before .before .before .before .before .before .before .before .before .before .before .before .before .before .before .before .before .before .before .before .before .before .before .before .before .before .before .before .before .before .before .before .before .before .before .before .before .pre .1 .0) (joining (c .before .before .before .before .before .before .before .before .before .before .before .before .before .before .before .before .before .before .before .before .before .before .before .before .before .before .before .before .before .before .before .before .before .before .before)) (c .before .before .before .before .before .before .before .before .before .before .before .before .before .before .before .before .before .before .before .before .before .before .before .before .before .before .before .before .before .before .before .before .before .second-child .ensures), c .before .before .before .before .before .before .before .before .before .before .before .before .before .before .before .before .before .before .before .before .before .before .before .before .before .before .before .before .before .before .before .before .before .before .before .before .before .before .before .before .before .pre .1 .1 .0 .inside)) (c .before .before .before .before .before .before .before .before .before .before .before .before .circuit-step2 .kept .1 .1 .1 .1 .1 .1 .1 .0) (c .before .before .before .before .before .before .before .before .before .before .before .before .circuit-step2 .ensures .0) (c .before .before .before .before .before .before .before .before .before .before .before .before .circuit-step2 .ensures .1 xs w₁) (c .before .before .before .before .before .before .note2 .ensures) in
-        join-below (c .before .before .before .before .before .before .before .before .before .before .before .before .before .before .before .before .before .before .before .before .before .before .before .before .before .before .before .before .before .before .before .before .before .before .before .before .before .before .before .before .before .pre .1 .0) w (joining (c .before .before .before .before .before .before .before .before .before .before .before .before .before .before .before .before .before .before .before .before .before .before .before .before .before .before .before .before .before .before .before .before .before .before .before)) (c .before .before .before .before .before .before .before .before .before .before .before .before .before .before .before .before .before .before .before .before .before .before .before .before .before .before .before .before .before .before .before .before .before .before .first-child .ensures) (c .before .before .before .before .before .before .before .before .before .before .before .before .before .before .before .before .before .before .before .before .before .before .before .before .before .before .before .before .before .before .before .before .before .second-child .ensures) (c .before .before .before .before .before .before .before .before .before .before .before .before .before .before .before .before .before .before .before .before .before .before .before .before .before .before .before .before .before .before .first-input .ensures) (c .before .before .before .before .before .before .before .before .before .before .before .before .before .before .before .before .before .before .before .before .before .before .before .before .before .before .circuit-step .ensures .0) (c .before .before .before .before .before .before .before .before .before .before .before .before .before .before .before .before .second-input .ensures) first second,
+        let w₁ = watching-kept w (c .before .before .before .before .before .before .before .before .before .before .before .before .before .before .before .before .before .before .before .before .before .note .kept .1 .1 .1 .0 ∙ c .before .before .before .before .before .before .before .before .before .before .before .before .before .before .before .before .before .before .before .before .before .before .before .before .before .before .before .circuit-step .kept .1 .1 .1 .1 .1 .1 .1 .0) in
+        let first = noted-showed (c .before .before .before .before .before .before .before .before .before .before .before .before .before .before .before .before .before .before .before .before .before .before .before .before .before .before .before .before .before .before .before .before .before .before .before .before .before .before .before .before .before .before .before .pre .1 .0) w (omega (arith, first-below (c .before .before .before .before .before .before .before .before .before .before .before .before .before .before .before .before .before .before .before .before .before .before .before .before .before .before .before .before .before .before .before .before .before .before .before .before .before .before .before .before .before .before .before .pre .1 .0) (joining (c .before .before .before .before .before .before .before .before .before .before .before .before .before .before .before .before .before .before .before .before .before .before .before .before .before .before .before .before .before .before .before .before .before .before .before .before .before)) (c .before .before .before .before .before .before .before .before .before .before .before .before .before .before .before .before .before .before .before .before .before .before .before .before .before .before .before .before .before .before .before .before .before .before .before .before .first-child .ensures), c .before .before .before .before .before .before .before .before .before .before .before .before .before .before .before .before .before .before .before .before .before .before .before .before .before .before .before .before .before .before .before .before .before .before .before .before .before .before .before .before .before .before .before .pre .1 .1 .0 .inside)) (c .before .before .before .before .before .before .before .before .before .before .before .before .before .before .before .before .before .before .before .before .before .before .before .before .before .before .before .circuit-step .kept .1 .1 .1 .1 .1 .1 .1 .0) (c .before .before .before .before .before .before .before .before .before .before .before .before .before .before .before .before .before .before .before .before .before .before .before .before .before .before .before .circuit-step .ensures .0) (c .before .before .before .before .before .before .before .before .before .before .before .before .before .before .before .before .before .before .before .before .before .before .before .before .before .before .before .circuit-step .ensures .1 xs w) (c .before .before .before .before .before .before .before .before .before .before .before .before .before .before .before .before .before .before .before .before .before .note .ensures) in
+        let second = noted-showed (c .before .before .before .before .before .before .before .before .before .before .before .before .before .before .before .before .before .before .before .before .before .before .before .before .before .before .before .before .before .before .before .before .before .before .before .before .before .before .before .before .before .before .before .pre .1 .0) w₁ (omega (arith, second-below (c .before .before .before .before .before .before .before .before .before .before .before .before .before .before .before .before .before .before .before .before .before .before .before .before .before .before .before .before .before .before .before .before .before .before .before .before .before .before .before .before .before .before .before .pre .1 .0) (joining (c .before .before .before .before .before .before .before .before .before .before .before .before .before .before .before .before .before .before .before .before .before .before .before .before .before .before .before .before .before .before .before .before .before .before .before .before .before)) (c .before .before .before .before .before .before .before .before .before .before .before .before .before .before .before .before .before .before .before .before .before .before .before .before .before .before .before .before .before .before .before .before .before .before .before .second-child .ensures), c .before .before .before .before .before .before .before .before .before .before .before .before .before .before .before .before .before .before .before .before .before .before .before .before .before .before .before .before .before .before .before .before .before .before .before .before .before .before .before .before .before .before .before .pre .1 .1 .0 .inside)) (c .before .before .before .before .before .before .before .before .before .before .before .before .circuit-step2 .kept .1 .1 .1 .1 .1 .1 .1 .0) (c .before .before .before .before .before .before .before .before .before .before .before .before .circuit-step2 .ensures .0) (c .before .before .before .before .before .before .before .before .before .before .before .before .circuit-step2 .ensures .1 xs w₁) (c .before .before .before .before .before .before .note2 .ensures) in
+        join-below (c .before .before .before .before .before .before .before .before .before .before .before .before .before .before .before .before .before .before .before .before .before .before .before .before .before .before .before .before .before .before .before .before .before .before .before .before .before .before .before .before .before .before .before .pre .1 .0) w (joining (c .before .before .before .before .before .before .before .before .before .before .before .before .before .before .before .before .before .before .before .before .before .before .before .before .before .before .before .before .before .before .before .before .before .before .before .before .before)) (c .before .before .before .before .before .before .before .before .before .before .before .before .before .before .before .before .before .before .before .before .before .before .before .before .before .before .before .before .before .before .before .before .before .before .before .before .first-child .ensures) (c .before .before .before .before .before .before .before .before .before .before .before .before .before .before .before .before .before .before .before .before .before .before .before .before .before .before .before .before .before .before .before .before .before .before .before .second-child .ensures) (c .before .before .before .before .before .before .before .before .before .before .before .before .before .before .before .before .before .before .before .before .before .before .before .before .before .before .before .before .before .before .before .before .first-input .ensures) (c .before .before .before .before .before .before .before .before .before .before .before .before .before .before .before .before .before .before .before .before .before .before .before .before .before .before .before .circuit-step .ensures .0) (c .before .before .before .before .before .before .before .before .before .before .before .before .before .before .before .before .before .second-input .ensures) first second,
   )
 
   demand-element-copy-out-demand : demand-lts.Need-element-copy-out-demand (demand-calls t) (demand-at t) demand.Post
@@ -193,30 +193,30 @@ module _ (t : ℕ) where
 
   demand-circuit-step-requires : demand-lts.Need-circuit-step-requires (demand-calls t) (demand-at t) demand.Post
   demand-circuit-step-requires c κs =
-      let lower = body-in (c .before .before .before .before .before .before .before .before .before .before .before .before .before .pre .1 .0) (c .before .before .before .before .before .before .before .before .before .before .before .before .before .pre .1 .1 .0) in
-      let body = c .before .before .before .before .before .index .ensures ∙ c .before .before .before .before .before .before .first-of .ensures in
-      (omega (arith, c .before .before .before .before .before .before .before .before .before .before .before .before .before .pre .0, lower, body), (c .before .before .before .before .before .before .before .before .before .before .before .before .before .pre .1 .0, (record { inside = omega (arith, lower, body, c .before .before .before .before .before .before .before .before .before .before .before .before .before .pre .1 .1 .0 .inside) }, (c .before .before .before .before .before .before .before .before .before .before .before .before .before .pre .1 .1 .1 .0, c .before .before .before .before .before .before .before .before .before .before .before .before .before .pre .1 .1 .1 .1))))
+      let lower = body-in (c .before .before .before .before .before .before .before .before .before .before .before .before .before .before .pre .1 .0) (c .before .before .before .before .before .before .before .before .before .before .before .before .before .before .pre .1 .1 .0) in
+      let body = c .before .before .before .before .before .before .index .ensures ∙ c .before .before .before .before .before .before .before .first-of .ensures in
+      (omega (arith, c .before .before .before .before .before .before .before .before .before .before .before .before .before .before .pre .0, lower, body), (c .before .before .before .before .before .before .before .before .before .before .before .before .before .before .pre .1 .0, (record { inside = omega (arith, lower, body, c .before .before .before .before .before .before .before .before .before .before .before .before .before .before .pre .1 .1 .0 .inside) }, (c .before .before .before .before .before .before .before .before .before .before .before .before .before .before .pre .1 .1 .1 .0, c .before .before .before .before .before .before .before .before .before .before .before .before .before .before .pre .1 .1 .1 .1))))
 
   demand-note-requires : demand-lts.Need-note-requires (demand-calls t) (demand-at t) demand.Post
-  demand-note-requires c κs = noting (c .before .before .before .before .before .before .before .before .before .before .before .before .before .before .before .before .before .before .before .pre .1 .0) (watched-kept (c .before .before .before .before .before .before .before .before .before .before .before .before .before .before .before .before .before .before .before .pre .1 .1 .1 .1) (c .before .before .before .before .before .circuit-step .kept .1 .1 .1 .1 .1 .1 .1 .0)) (omega (arith, body-in (c .before .before .before .before .before .before .before .before .before .before .before .before .before .before .before .before .before .before .before .pre .1 .0) (c .before .before .before .before .before .before .before .before .before .before .before .before .before .before .before .before .before .before .before .pre .1 .1 .0), c .before .before .before .before .before .before .before .before .before .before .before .index .ensures ∙ c .before .before .before .before .before .before .before .before .before .before .before .before .first-of .ensures, c .before .before .before .before .before .before .before .before .before .before .before .before .before .before .before .before .before .before .before .pre .1 .1 .0 .inside))
+  demand-note-requires c κs = noting (c .before .before .before .before .before .before .before .before .before .before .before .before .before .before .before .before .before .before .before .before .pre .1 .0) (watched-kept (c .before .before .before .before .before .before .before .before .before .before .before .before .before .before .before .before .before .before .before .before .pre .1 .1 .1 .1) (c .before .before .before .before .before .circuit-step .kept .1 .1 .1 .1 .1 .1 .1 .0)) (omega (arith, body-in (c .before .before .before .before .before .before .before .before .before .before .before .before .before .before .before .before .before .before .before .before .pre .1 .0) (c .before .before .before .before .before .before .before .before .before .before .before .before .before .before .before .before .before .before .before .before .pre .1 .1 .0), c .before .before .before .before .before .before .before .before .before .before .before .before .index .ensures ∙ c .before .before .before .before .before .before .before .before .before .before .before .before .before .first-of .ensures, c .before .before .before .before .before .before .before .before .before .before .before .before .before .before .before .before .before .before .before .before .pre .1 .1 .0 .inside))
 
   demand-hold-requires : demand-lts.Need-hold-requires (demand-calls t) (demand-at t) demand.Post
-  demand-hold-requires c κs = (c .before .before .before .before .before .before .before .before .before .before .before .before .before .before .before .before .before .before .before .before .before .before .before .pre .1 .0, (c .before .before .before .before .before .before .before .before .before .before .before .before .before .before .before .before .before .before .before .before .before .before .before .pre .1 .1 .0, roomy (c .before .before .before .before .before .before .before .before .before .before .before .before .before .before .before .before .before .before .before .before .before .before .before .args .table .now) (c .before .before .before .before .before .before .before .before .before .before .before .before .before .before .before .before .before .before .before .before .before .before .before .pre .1 .1 .1 .0) (c .before .before .before .before .before .before .before .before .before .circuit-step .kept .1 .1 .1 .1 .1 .0)))
+  demand-hold-requires c κs = (c .before .before .before .before .before .before .before .before .before .before .before .before .before .before .before .before .before .before .before .before .before .before .before .before .pre .1 .0, (c .before .before .before .before .before .before .before .before .before .before .before .before .before .before .before .before .before .before .before .before .before .before .before .before .pre .1 .1 .0, roomy (c .before .before .before .before .before .before .before .before .before .before .before .before .before .before .before .before .before .before .before .before .before .before .before .before .args .table .now) (c .before .before .before .before .before .before .before .before .before .before .before .before .before .before .before .before .before .before .before .before .before .before .before .before .pre .1 .1 .1 .0) (c .before .before .before .before .before .before .before .before .before .circuit-step .kept .1 .1 .1 .1 .1 .0)))
 
   -- after the demand's test and what it guards: as many cells as before, and as many latest values
   demand-length : (c : demand-lts.Joined1 (demand-calls t) (demand-at t) demand.Post) → length (c .if1 .cells) ≡ length (c .before .before .before .before .before .before .args .cells .now)
-  demand-length c = ⊎-elim (λ w. ap length (w .21) ∙ w .18 .kept .1 .1 .1 .1 .0 ∙ w .8 .kept .1 .1 .1 .1 .1 .0) (λ w. ap length (w .1)) (c .if1 .came)
+  demand-length c = ⊎-elim (λ w. ap length (w .22) ∙ w .19 .kept .1 .1 .1 .1 .0 ∙ w .9 .kept .1 .1 .1 .1 .1 .0) (λ w. ap length (w .1)) (c .if1 .came)
 
   latest-length : (c : demand-lts.Joined1 (demand-calls t) (demand-at t) demand.Post) → length (c .if1 .latest) ≡ length (c .before .before .before .before .before .before .args .latest .now)
-  latest-length c = ⊎-elim (λ w. ap length (w .22) ∙ w .14 .kept .1 .1 .1 .0 ∙ w .8 .kept .1 .1 .1 .1 .1 .1 .1 .0) (λ w. ap length (w .2)) (c .if1 .came)
+  latest-length c = ⊎-elim (λ w. ap length (w .23) ∙ w .15 .kept .1 .1 .1 .0 ∙ w .9 .kept .1 .1 .1 .1 .1 .1 .1 .0) (λ w. ap length (w .2)) (c .if1 .came)
 
   -- an array with what they hold has the outputs of the tick
   demand-outputs : (c : demand-lts.Joined1 (demand-calls t) (demand-at t) demand.Post) {os : List ℕ} → Holding (c .before .before .before .before .before .before .args .table .now) (c .before .before .before .before .before .before .args .node) (c .if1 .cells) os
-      → Ticked (c .before .before .before .before .before .before .args .table .now) (c .before .before .before .before .before .before .args .controls .now) (c .before .before .before .before .before .before .args .node) (c .before .before .before .before .before .before .args .ins .now) (c .before .before .before .before .before .before .args .cells .now) os (c .if1 .cells)
+      → Ticked (c .before .before .before .before .before .before .args .table .now) (c .before .before .before .before .before .before .args .controls .now) (c .before .before .before .before .before .before .args .node) (c .before .before .before .before .before .before .args .ins .now) (c .before .before .before .before .before .before .args .cells .now) os (c .if1 .cells) (c .before .before .before .before .before .before .args .told .now) (c .if1 .told)
   demand-outputs c h =
       ⊎-elim
-      (λ w. demand-ticked (c .before .before .before .before .before .before .pre .1 .0) (c .before .before .before .before .before .before .pre .1 .1 .0) (sym (c .before .demand .ensures) ∙ w .0 .taken) (w .2 .ensures ∙ w .1 .ensures) (w .4 .ensures) (w .8 .ensures .0) (w .21 ∙ w .18 .ensures) h)
-      (λ w. rest-ticked (c .before .before .before .before .before .before .pre .1 .0) (c .before .before .before .before .before .before .pre .1 .1 .0) (sym (c .before .demand .ensures) ∙ w .0 .left) (w .1) h)
+      (λ w. demand-ticked (c .before .before .before .before .before .before .pre .1 .0) (c .before .before .before .before .before .before .pre .1 .1 .0) (sym (c .before .demand .ensures) ∙ w .0 .taken) (w .2 .ensures ∙ w .1 .ensures) (w .4 .ensures) (w .9 .ensures .0) (w .22 ∙ w .19 .ensures) (w .24) h)
+      (λ w. rest-ticked (c .before .before .before .before .before .before .pre .1 .0) (c .before .before .before .before .before .before .pre .1 .1 .0) (sym (c .before .demand .ensures) ∙ w .0 .left) (w .1) (w .3) h)
       (c .if1 .came)
 
   -- and the probes show what the body showed, if it was worked
@@ -226,8 +226,8 @@ module _ (t : ℕ) where
       ⊎-elim
       (λ w.
       let body = w .2 .ensures ∙ w .1 .ensures in
-      rw (w .22) (below-demand (c .before .before .before .before .before .before .pre .1 .0) v (c .before .before .before .before .before .before .pre .1 .1 .0) (sym (c .before .demand .ensures) ∙ w .0 .taken) body (w .4 .ensures)
-      (noted-showed (c .before .before .before .before .before .before .pre .1 .0) v (omega (arith, body-in (c .before .before .before .before .before .before .pre .1 .0) (c .before .before .before .before .before .before .pre .1 .1 .0), body, c .before .before .before .before .before .before .pre .1 .1 .0 .inside)) (w .8 .kept .1 .1 .1 .1 .1 .1 .1 .0) (w .8 .ensures .0) (w .8 .ensures .1 xs v) (w .14 .ensures))))
+      rw (w .23) (below-demand (c .before .before .before .before .before .before .pre .1 .0) v (c .before .before .before .before .before .before .pre .1 .1 .0) (sym (c .before .demand .ensures) ∙ w .0 .taken) body (w .4 .ensures)
+      (noted-showed (c .before .before .before .before .before .before .pre .1 .0) v (omega (arith, body-in (c .before .before .before .before .before .before .pre .1 .0) (c .before .before .before .before .before .before .pre .1 .1 .0), body, c .before .before .before .before .before .before .pre .1 .1 .0 .inside)) (w .9 .kept .1 .1 .1 .1 .1 .1 .1 .0) (w .9 .ensures .0) (w .9 .ensures .1 xs v) (w .15 .ensures))))
       (λ w. rw (w .2) (below-rest (c .before .before .before .before .before .before .pre .1 .0) v (c .before .before .before .before .before .before .pre .1 .1 .0) refl (sym (c .before .demand .ensures) ∙ w .0 .left)))
       (c .if1 .came)
 

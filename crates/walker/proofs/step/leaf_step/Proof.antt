@@ -73,6 +73,9 @@ delay-at-requires c κs =
     let d = c .before .before .index2 .ensures ∙ c .before .before .before .before .before .before .before .before .before .before .first-of .ensures in
     omega (arith, delay-small (c .before .before .before .before .before .before .before .before .before .before .before .before .before .before .pre .0) (c .before .before .before .before .before .before .before .before .before .before .before .before .before .before .pre .1 .0 .inside) e, delay-room (c .before .before .before .before .before .before .before .before .before .before .before .before .before .before .pre .0) (c .before .before .before .before .before .before .before .before .before .before .before .before .before .before .pre .1 .0 .inside) e (c .before .before .before .before .before .before .before .before .before .before .before .before .before .before .pre .1 .1 .1))
 
+tell-requires : tie.Need-tell-requires
+tell-requires c κs = search needs
+
 one-requires-4 : tie.Need-one-requires-4
 one-requires-4 c κs = search needs
 
@@ -81,10 +84,10 @@ same-length c = search needs
 
 returns-4 : tie.Need-returns-4
 returns-4 c =
-    delay-ticked (c .before .before .before .before .before .before .before .before .before .before .before .before .before .before .before .before .before .before .pre .0) (c .before .before .before .before .before .before .before .before .before .before .before .before .before .before .before .before .before .before .pre .1 .0 .inside) (sym (c .before .before .before .before .before .before .before .before .before .before .before .before .before .before .before .kind-of .ensures) ∙ c .before .before .before .before .before .before .before .before .before .if4 .taken)
-    (cell-at (c .before .before .before .before .before .before .before .before .before .before .before .before .before .before .before .before .before .before .pre .0) (c .before .before .before .before .before .before .before .before .before .before .before .before .before .before .before .before .before .before .pre .1 .0 .inside) (c .before .before .before .before .before .before .before .cell-of .ensures)) (c .before .before .before .before .before .before .index2 .ensures ∙ c .before .before .before .before .before .before .before .before .before .before .before .before .before .before .first-of .ensures)
-    (ins-at (c .before .before .before .before .before .before .before .before .before .before .before .before .before .before .before .before .before .before .pre .0) (c .before .before .before .before .before .before .before .before .before .before .before .before .before .before .before .before .before .before .pre .1 .0 .inside) (c .before .before .before .before .before .before .before .before .before .before .before .before .before .inputs-of .ensures)) (c .before .before .before .before .before .input-at4 .ensures) (c .before .before .before .before .input-at5 .ensures)
-    (c .before .before .before .delay-at .ensures .0) (c .before .before .before .delay-at .ensures .1) (c .one4 .ensures)
+    delay-ticked (c .before .before .before .before .before .before .before .before .before .before .before .before .before .before .before .before .before .before .before .before .pre .0) (c .before .before .before .before .before .before .before .before .before .before .before .before .before .before .before .before .before .before .before .before .pre .1 .0 .inside) (sym (c .before .before .before .before .before .before .before .before .before .before .before .before .before .before .before .before .before .kind-of .ensures) ∙ c .before .before .before .before .before .before .before .before .before .before .before .if4 .taken)
+    (cell-at (c .before .before .before .before .before .before .before .before .before .before .before .before .before .before .before .before .before .before .before .before .pre .0) (c .before .before .before .before .before .before .before .before .before .before .before .before .before .before .before .before .before .before .before .before .pre .1 .0 .inside) (c .before .before .before .before .before .before .before .before .before .cell-of .ensures)) (c .before .before .before .before .before .before .before .before .index2 .ensures ∙ c .before .before .before .before .before .before .before .before .before .before .before .before .before .before .before .before .first-of .ensures)
+    (ins-at (c .before .before .before .before .before .before .before .before .before .before .before .before .before .before .before .before .before .before .before .before .pre .0) (c .before .before .before .before .before .before .before .before .before .before .before .before .before .before .before .before .before .before .before .before .pre .1 .0 .inside) (c .before .before .before .before .before .before .before .before .before .before .before .before .before .before .before .inputs-of .ensures)) (c .before .before .before .before .before .before .before .input-at4 .ensures) (c .before .before .before .before .before .before .input-at5 .ensures)
+    (c .before .before .before .before .before .delay-at .ensures .0) (c .before .before .before .before .before .delay-at .ensures .1) (c .before .before .before .before .before .delay-at .ensures .2) (c .before .tell .ensures) (c .one4 .ensures)
 
 input-at-requires-6 : tie.Need-input-at-requires-6
 input-at-requires-6 c κs = omega arith
@@ -126,6 +129,7 @@ leaf-step-spec =
     input-at-requires-4
     input-at-requires-5
     delay-at-requires
+    tell-requires
     one-requires-4
     same-length
     returns-4
