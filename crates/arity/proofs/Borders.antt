@@ -115,6 +115,17 @@ integrator-accepted = refl
 pub integrator-words : Words integrator
 integrator-words = words-by integrator refl
 
+-- a delay of D 1
+abbrev pub shortDelay : List ℕ
+shortDelay = 4 ∷ 1 ∷ 0 ∷ []
+
+pub short-delay-accepted : checked shortDelay ≡ counts (2 ∷ 1 ∷ 1 ∷ 2 ∷ [])
+unfolding checked lowest refusalAt childrenFree taken ruleFits tree treeAt ins outs need size sumTo
+short-delay-accepted = refl
+
+pub short-delay-words : Words shortDelay
+short-delay-words = words-by shortDelay refl
+
 abbrev pub ondemandCable : List ℕ
 ondemandCable = 5 ∷ 0 ∷ 0 ∷ 12 ∷ 0 ∷ 0 ∷ []
 

@@ -6,9 +6,7 @@ use mathlib.Core.List.{List, _++_}
 use lib.ListN.{length, take, drop}
 use lib.Dec.{leb}
 use Rattle.word.specs.Choice.{_and_, pick}
-use Rattle.word.specs.Tick.{Stepped}
-use Rattle.refusal.specs.Answer.{count}
-use Rattle.cells.specs.Block.{Ran, ranAs, refusal, blockOk, answered, called}
+use Rattle.cells.specs.Block.{withReport, Ran, ranAs, refusal, Played, blockOk, answered, called}
 use Rattle.cells.proofs.Calls.{block-says}
 use Rattle.arity.specs.Tree.{Tree, ins, outs}
 use Rattle.arity.specs.Nodes.{Complete, cellsBefore}
@@ -29,7 +27,7 @@ module _ (n : ℕ) (t : Tree) (w : WellFormed t) (c : Complete n t) (ticks : ℕ
       ≡ answered (step (cellsBefore t) t) (ins t) (outs t) (cellsBefore t n) ticks inputs controls cells outputs
   unfolding answered
   same-answer e =
-      ap (λ (s : Stepped). ranAs (count (ticks * outs t)) (s .cells ++ drop (cellsBefore t n) cells) (s .outputs ++ drop (ticks * outs t) outputs))
+      ap (λ (s : Played). ranAs (withReport (ticks * outs t) (s .clips)) (s .cells ++ drop (cellsBefore t n) cells) (s .outputs ++ drop (ticks * outs t) outputs))
       (played-same n t w ticks controls inputs (take (cellsBefore t n) cells) (block-says (ins t) ticks inputs controls e .ins))
 
   same-call : called (codeTick (translation n t)) (ins t) (outs t) (cellsBefore t n) ticks inputs controls cells outputs

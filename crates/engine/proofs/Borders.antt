@@ -12,7 +12,7 @@ use Rattle.refusal.specs.Outcome.{outcome}
 use Rattle.cells.specs.Load.{loaded}
 use Rattle.arity.specs.Table.{nodes, circuit}
 use Rattle.arity.specs.Check.{checked}
-use Rattle.arity.proofs.Borders.{fourDelays, four-delays-accepted, four-delays-words, integrator, integrator-accepted, integrator-words, ondemandCable, ondemand-accepted, ondemand-words}
+use Rattle.arity.proofs.Borders.{fourDelays, four-delays-accepted, four-delays-words, integrator, integrator-accepted, integrator-words, ondemandCable, ondemand-accepted, ondemand-words, shortDelay, short-delay-accepted, short-delay-words}
 use Rattle.arity.proofs.Promise.{promise}
 use Rattle.signal.specs.Signal.{History}
 use Rattle.calls.specs.Calls.{Arguments, Element, OthersRefused}
@@ -65,3 +65,7 @@ integrator-delivered code code′ t cells e =
 -- an ondemand cable, and a load that named its one cell
 pub ondemand-lawful : LawfulRuns ondemandCable 1
 ondemand-lawful cells e = demand-3 ondemandCable 1 (runnable ondemandCable 2 1 3 1 ondemand-accepted ondemand-words (omega arith) (omega arith)) 1 cells e (omega arith)
+
+-- a delay of D 1, and a load that named its two cells
+pub delay-lawful : LawfulRuns shortDelay 2
+delay-lawful cells e = demand-3 shortDelay 2 (runnable shortDelay 2 1 1 2 short-delay-accepted short-delay-words (omega arith) (omega arith)) 2 cells e (omega arith)

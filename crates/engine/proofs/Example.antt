@@ -12,7 +12,8 @@ use Rattle.word.specs.Tick.{Tick, tick, zeros}
 use Rattle.refusal.specs.Refusals.{noPlace}
 use Rattle.refusal.specs.Answer.{count, refusedAll}
 use Rattle.cells.specs.Load.{loaded}
-use Rattle.cells.specs.Block.{called, answered, played, refusal}
+use Rattle.cells.specs.Block.{counted, withoutReport, called, answered, played, refusal}
+use Rattle.cells.proofs.Calls.{unreported, refused-has-none}
 use Rattle.arity.specs.Tree.{ins, outs}
 use Rattle.arity.specs.Table.{nodes, circuit, tree}
 use Rattle.arity.specs.Nodes.{cellsBefore}
@@ -97,13 +98,13 @@ unfolding cellsAfter cellsBefore ins tree operands add value low ticked loaded
 cells-after = lawful .whole .cells ∙ ap (λ h. cellsAfter 3 (circuit integrator) h ++ 9 ∷ []) all-ticks
 
 -- "refused exactly where row 14 or 12 says so"; an accepted one "answers with their count"
-first-answer : program first block .answer ≡ count 2
+first-answer : withoutReport (program first block .answer) ≡ count 2
 unfolding events loaded answerTo cellsBefore ins tree operands
 first-answer = lawful .whole .answers .0
 
 second-answer : program without-cells [] .answer ≡ refusedAll 12
 unfolding events loaded answerTo cellsBefore ins tree operands
-second-answer = lawful .whole .answers .1 .0
+second-answer = refused-has-none _ 12 noPlace (lawful .whole .answers .1 .0)
 
 -- a refused run has written nothing
 second-nothing : program without-cells [] ≡ refusal 12 [] (0 ∷ 0 ∷ [])
@@ -113,7 +114,7 @@ second-nothing = lawful .whole .refusals .1 .0 12 noPlace second-answer
 -- "A buffer longer than needed keeps its content past the needed part."
 rest-kept : drop 2 (program first block .outputs) ≡ 7 ∷ []
 unfolding events loaded
-rest-kept = rw first-answer at (lawful .whole .buffers .0)
+rest-kept = let two : counted (program first block .answer) ≡ 2 = unreported counted (λ ks. refl) (program first block .answer) ∙ ap counted first-answer in rw two at (lawful .whole .buffers .0)
 
 -- "The cells after a tick are those that the list leaves when it is cut after that tick."
 first-accepted : AcceptedAfter (nodes integrator) (circuit integrator) program 0 list [] first

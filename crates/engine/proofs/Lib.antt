@@ -3,3 +3,4 @@ pub mod Demand3
 pub mod Borders
 mod Example
 mod QuietExample
+mod ClippedExample
