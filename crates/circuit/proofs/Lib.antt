@@ -1,3 +1,4 @@
 pub mod Answers
-pub mod Halves
+pub mod Reports
+pub mod Decoded
 mod Borders

@@ -1,3 +1,3 @@
 pub mod Encoded
 pub mod Report
-pub mod Halves
+pub mod Decoded

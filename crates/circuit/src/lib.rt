@@ -9,17 +9,23 @@ use refusal::Refusal;
 use translator::TranslateAnswer;
 use walker::WalkAnswer;
 ghost use mathlib.Core.Path.{_≡_};
+ghost use Prim.Native.Nat.{_≤_};
+ghost use Rattle.word.specs.Limits.{mostTicks};
 ghost use Rattle.refusal.specs.Answer.{refusalOf};
+ghost use Rattle.cells.specs.Block.{withReport, reportOf};
 ghost use Rattle.cells.specs.Load.{loaded};
 ghost use Rattle.column.specs.File.{reading, writing};
 ghost use Rattle.walker.specs.Walk.{answerOf, walkedTable, probedTable};
 ghost use Rattle.translator.specs.Translate.{translatedTable};
 ghost use Rattle.flat.specs.Run.{ran};
 ghost use Rattle.circuit.specs.Encoded.{encoded};
+ghost use Rattle.circuit.specs.Decoded.{clippedIn};
 ghost use Rattle.circuit.specs.Report.{reporting};
 
-// The upper half of an answer begins here.
+// Where the parts of an answer begin: the refusal's number, and the report of walker and runner.
 const UPPER: u64 = 4294967296;
+
+const REPORT: u64 = 281474976710656;
 
 // The answer of a refusal.
 fn refused(refusal: Refusal) -> u64
@@ -107,13 +113,25 @@ pub extern "C" fn circuit_load(named: u32, cells: &mut [u32]) -> u64
     }
 }
 
+// The answer of an accepted walk or run: its samples, and its report.
+fn worked(count: u32, clipped: u32) -> u64
+    requires { ⌜ clipped ≤ mostTicks ⌝ }
+    ensures { λ r. ⌜ r ≡ encoded (withReport count clipped) ⌝ }
+{
+    clipped as u64 * REPORT + count as u64
+}
+
 // The answer of a walk.
 fn walked(answer: WalkAnswer) -> u64
+    requires { ⌜ reportOf (answerOf answer) ≤ mostTicks ⌝ }
     ensures { λ r. ⌜ r ≡ encoded (answerOf answer) ⌝ }
 {
     match answer {
         WalkAnswer::Refused(r) => return refused(r),
-        WalkAnswer::Samples(n) => return n as u64,
+        WalkAnswer::Samples {
+            count: n,
+            clipped: k,
+        } => return worked(n, k),
     }
 }
 
@@ -185,6 +203,17 @@ pub extern "C" fn circuit_run(
     let answer = flat::run(code, ticks, inputs, controls, cells, outputs);
     match answer {
         RunAnswer::Refused(r) => return refused(r),
-        RunAnswer::Samples(n) => return n as u64,
+        RunAnswer::Samples {
+            count: samples,
+            clipped: clips,
+        } => return worked(samples, clips),
     }
+}
+
+// The report in the answer of a walk or a run: in how many ticks a delay was clipped; 0 in any other answer.
+#[no_mangle]
+pub extern "C" fn circuit_clipped(answer: u64) -> u32
+    ensures { λ r. ⌜ r ≡ clippedIn answer ⌝ }
+{
+    (answer / REPORT) as u32
 }

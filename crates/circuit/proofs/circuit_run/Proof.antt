@@ -1,7 +1,7 @@
 -- `circuit::circuit_run` meets its contract.
-use mathlib.Core.Path.{refl}
 use Rattle.flat.specs.Run.{answerOf}
 use Rattle.circuit.proofs.Answers.{encodes, ran-gives}
+use Rattle.circuit.proofs.Reports.{few-answer, few-case, ran-few}
 use borrow.Author.Needs.{needs}
 use Rattle.circuit.proofs.circuit_run.Statement.{statement}
 use Rattle.circuit.proofs.circuit_run.Tie as tie
@@ -27,8 +27,8 @@ returns c = ran-gives (encodes answerOf (c .refused .ensures) (c .before .before
 enum-known-answer-2 : tie.Need-enum-known-answer-2
 enum-known-answer-2 c = search needs
 
-cast-result : tie.Need-cast-result
-cast-result c = search needs
+worked-requires : tie.Need-worked-requires
+worked-requires c κs = few-case answerOf (c .before .answer2 .given .1) (few-answer _ (c .before .before .before .before .before .before .before .run .ensures) (ran-few _ _ _ _ _ _))
 
 same-length-3 : tie.Need-same-length-3
 same-length-3 c = search needs
@@ -37,7 +37,7 @@ same-length-4 : tie.Need-same-length-4
 same-length-4 c = search needs
 
 returns-2 : tie.Need-returns-2
-returns-2 c = ran-gives (encodes answerOf refl (c .before .answer2 .given .1)) _ (c .before .before .before .before .before .before .before .run .ensures)
+returns-2 c = ran-gives (encodes answerOf (c .worked .ensures) (c .before .before .answer2 .given .1)) _ (c .before .before .before .before .before .before .before .before .run .ensures)
 
 pub circuit-run-spec : {M : Type 1} → statement M
 circuit-run-spec =
@@ -50,7 +50,7 @@ circuit-run-spec =
     same-length-2
     returns
     enum-known-answer-2
-    cast-result
+    worked-requires
     same-length-3
     same-length-4
     returns-2)

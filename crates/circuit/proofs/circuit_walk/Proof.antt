@@ -1,5 +1,6 @@
 -- `circuit::circuit_walk` meets its contract.
 use Rattle.circuit.proofs.Answers.{ran-gives}
+use Rattle.circuit.proofs.Reports.{few-answer, walked-few}
 use borrow.Author.Needs.{needs}
 use Rattle.circuit.proofs.circuit_walk.Statement.{statement}
 use Rattle.circuit.proofs.circuit_walk.Tie as tie
@@ -8,7 +9,7 @@ walk-requires : tie.Need-walk-requires
 walk-requires c κs = search needs
 
 walked-requires : tie.Need-walked-requires
-walked-requires c κs = search needs
+walked-requires c κs = few-answer _ (c .before .before .before .before .walk .ensures) (walked-few _ _ _ _ _ _)
 
 same-length : tie.Need-same-length
 same-length c = search needs

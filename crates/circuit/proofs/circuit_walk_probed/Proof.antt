@@ -1,5 +1,8 @@
 -- `circuit::circuit_walk_probed` meets its contract.
+use mathlib.Core.Path.{ap}
+use Rattle.calls.specs.Probed.{Probed}
 use Rattle.circuit.proofs.Answers.{probed-gives}
+use Rattle.circuit.proofs.Reports.{few-answer, probed-few}
 use borrow.Author.Needs.{needs}
 use Rattle.circuit.proofs.circuit_walk_probed.Statement.{statement}
 use Rattle.circuit.proofs.circuit_walk_probed.Tie as tie
@@ -8,7 +11,7 @@ walk-probed-requires : tie.Need-walk-probed-requires
 walk-probed-requires c κs = search needs
 
 walked-requires : tie.Need-walked-requires
-walked-requires c κs = search needs
+walked-requires c κs = few-answer _ (ap (λ (y : Probed). y .ran) (c .before .before .before .before .before .before .before .before .walk-probed .ensures)) (probed-few _ _ _ _ _ _ _ _ _)
 
 same-length : tie.Need-same-length
 same-length c = search needs

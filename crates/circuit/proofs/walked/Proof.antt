@@ -1,7 +1,7 @@
 -- `circuit::walked` meets its contract.
-use mathlib.Core.Path.{refl}
 use Rattle.walker.specs.Walk.{answerOf}
 use Rattle.circuit.proofs.Answers.{encodes}
+use Rattle.circuit.proofs.Reports.{few-case}
 use borrow.Author.Needs.{needs}
 use Rattle.circuit.proofs.walked.Statement.{statement}
 use Rattle.circuit.proofs.walked.Tie as tie
@@ -18,13 +18,13 @@ returns c = encodes answerOf (c .refused .ensures) (c .before .before .answer .g
 enum-known-answer-2 : tie.Need-enum-known-answer-2
 enum-known-answer-2 c = search needs
 
-cast-result : tie.Need-cast-result
-cast-result c = search needs
+worked-requires : tie.Need-worked-requires
+worked-requires c κs = few-case answerOf (c .before .answer2 .given .1) (c .before .before .before .pre)
 
 returns-2 : tie.Need-returns-2
-returns-2 c = encodes answerOf refl (c .before .answer2 .given .1)
+returns-2 c = encodes answerOf (c .worked .ensures) (c .before .before .answer2 .given .1)
 
 pub walked-spec : {M : Type 1} → statement M
 walked-spec =
     tie.close
-    (tie.spec enum-known-answer refused-requires returns enum-known-answer-2 cast-result returns-2)
+    (tie.spec enum-known-answer refused-requires returns enum-known-answer-2 worked-requires returns-2)
