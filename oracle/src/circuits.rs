@@ -222,17 +222,17 @@ fn recursion(random: &mut Random, inputs: usize, outputs: usize, l: usize, r: us
     pair(11, first, build(random, q, fed, r))
 }
 
-/// A delay whose amount is often a number near 0 to D.
+/// A delay whose amount is an input, a control, or a number near 0 to D.
 fn delayed(random: &mut Random, inputs: usize, size: usize) -> Tree {
     let d = length(random);
-    let amount = if random.percent(70) {
-        leaf(1, random.within(-1, d.min(40) + 1))
-    } else if random.percent(50) {
-        leaf(1, d)
-    } else {
-        leaf(2, random.within(0, 15))
+    let fed = inputs > 0 && random.percent(50);
+    let amount = match random.below(10) {
+        _ if fed => cable(),
+        0..=2 => leaf(2, random.within(0, 15)),
+        3 | 4 => leaf(1, d),
+        _ => leaf(1, random.within(-1, d.min(40) + 1)),
     };
-    let input = build(random, inputs, 1, size.saturating_sub(3));
+    let input = build(random, inputs - usize::from(fed), 1, size.saturating_sub(3));
     pair(7, pair(8, input, amount), leaf(4, d))
 }
 

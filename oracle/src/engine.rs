@@ -15,6 +15,16 @@ pub struct Counts {
     pub cells: u32,
 }
 
+/// What walker and runner answer. E6: they "report in how many ticks of the call at least one delay
+/// that was worked in that tick was clipped".
+#[derive(Clone, Copy, Debug, PartialEq, Eq)]
+pub struct Worked {
+    /// The count of output samples.
+    pub samples: u32,
+    /// The count of ticks with a clipped delay.
+    pub clipped: u32,
+}
+
 /// What a call brings for its block.
 pub struct Block<'a> {
     pub ticks: u32,
@@ -44,7 +54,7 @@ pub trait Engine {
         controls: &[u32],
         cells: &mut [u32],
         outputs: &mut [u32],
-    ) -> Result<u32, Refusal>;
+    ) -> Result<Worked, Refusal>;
     fn walk_probed(
         &self,
         table: &[u32],
@@ -52,7 +62,7 @@ pub trait Engine {
         cells: &mut [u32],
         outputs: &mut [u32],
         probes: &mut Probes,
-    ) -> Result<u32, Refusal>;
+    ) -> Result<Worked, Refusal>;
     fn run(
         &self,
         code: &[u32],
@@ -61,7 +71,7 @@ pub trait Engine {
         controls: &[u32],
         cells: &mut [u32],
         outputs: &mut [u32],
-    ) -> Result<u32, Refusal>;
+    ) -> Result<Worked, Refusal>;
 }
 
 impl Refusal {

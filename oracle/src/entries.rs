@@ -2,7 +2,7 @@
 //! over the whole history wherever there is one; elsewhere from the interpreter.
 
 use crate::arity::{check, Checked};
-use crate::engine::{Block, Counts, Probes, Refusal};
+use crate::engine::{Block, Counts, Probes, Refusal, Worked};
 use crate::flat::{self, MOST_CELLS};
 use crate::meaning::Meaning;
 use crate::probes::{walk_by, wires, Recorder};
@@ -47,12 +47,12 @@ impl Past {
         block: &Block,
         cells: &mut [u32],
         outputs: &mut [u32],
-    ) -> Result<u32, Refusal> {
+    ) -> Result<Worked, Refusal> {
         let counts = walkable(table)?.counts;
         block_fits(&counts, block)?;
         room(&counts, block.ticks, cells, outputs)?;
-        self.go_on(table, block, cells, outputs, &mut Recorder::none());
-        Ok(block.ticks * counts.outputs)
+        let clipped = self.go_on(table, block, cells, outputs, &mut Recorder::none());
+        Ok(worked(&counts, block, clipped))
     }
 
     /// E5: "Refusal 15 .. is checked after 14 and before 12."
@@ -63,15 +63,15 @@ impl Past {
         cells: &mut [u32],
         outputs: &mut [u32],
         probes: &mut Probes,
-    ) -> Result<u32, Refusal> {
+    ) -> Result<Worked, Refusal> {
         let checked = walkable(table)?;
         let counts = checked.counts;
         block_fits(&counts, block)?;
         let wires = wires(probes.named, &checked)?;
         room(&counts, block.ticks, cells, outputs)?;
         let mut recorder = Recorder::new(wires, block.ticks, probes)?;
-        self.go_on(table, block, cells, outputs, &mut recorder);
-        Ok(block.ticks * counts.outputs)
+        let clipped = self.go_on(table, block, cells, outputs, &mut recorder);
+        Ok(worked(&counts, block, clipped))
     }
 
     /// "Runner: 13, 14, 12." `table` is the one whose translation the code is, if it is one's.
@@ -82,21 +82,21 @@ impl Past {
         block: &Block,
         cells: &mut [u32],
         outputs: &mut [u32],
-    ) -> Result<u32, Refusal> {
+    ) -> Result<Worked, Refusal> {
         let counts = flat::check(code)?;
         block_fits(&counts, block)?;
         room(&counts, block.ticks, cells, outputs)?;
         let none = &mut Recorder::none();
-        let told = table.is_some_and(|table| self.tell(table, block, cells, outputs, none));
-        if !told {
-            let ticks = block.ticks as usize;
-            flat::interpret(code, block.inputs, block.controls, cells, outputs, ticks);
+        let told = table.and_then(|table| self.tell(table, block, cells, outputs, none));
+        let clipped = told.unwrap_or_else(|| {
             self.interpreted(block);
-        }
-        Ok(block.ticks * counts.outputs)
+            let ticks = block.ticks as usize;
+            flat::interpret(code, block.inputs, block.controls, cells, outputs, ticks)
+        });
+        Ok(worked(&counts, block, clipped))
     }
 
-    /// An accepted walk.
+    /// An accepted walk; gives the count of ticks with a clipped delay.
     fn go_on(
         &mut self,
         table: &[u32],
@@ -104,14 +104,16 @@ impl Past {
         cells: &mut [u32],
         outputs: &mut [u32],
         recorder: &mut Recorder,
-    ) {
-        if !self.tell(table, block, cells, outputs, recorder) {
-            walk_by(operate, table, block, cells, outputs, recorder);
+    ) -> u32 {
+        let told = self.tell(table, block, cells, outputs, recorder);
+        told.unwrap_or_else(|| {
             self.interpreted(block);
-        }
+            walk_by(operate, table, block, cells, outputs, recorder)
+        })
     }
 
-    /// Adds the block to the history, if there is one, and writes what the meaning says.
+    /// Adds the block to the history, if there is one, and writes what the meaning says; gives the
+    /// meaning's count of clipped ticks among the block's.
     fn tell(
         &mut self,
         table: &[u32],
@@ -119,7 +121,7 @@ impl Past {
         cells: &mut [u32],
         outputs: &mut [u32],
         recorder: &mut Recorder,
-    ) -> bool {
+    ) -> Option<u32> {
         let checked = check(table).expect("an accepted table");
         let counts = checked.counts;
         if matches!(self.0, Life::Cleared(many) if many >= counts.cells as usize) {
@@ -127,11 +129,12 @@ impl Past {
             self.0 = Life::Told(table.to_vec(), Box::new(meaning));
         }
         let Life::Told(known, meaning) = &mut self.0 else {
-            return false;
+            return None;
         };
         if known != table {
-            return false;
+            return None;
         }
+        let first = meaning.ticks();
         let (n, m) = (counts.inputs as usize, counts.outputs as usize);
         for tick in 0..block.ticks as usize {
             let inputs = &block.inputs[tick * n..(tick + 1) * n];
@@ -145,7 +148,7 @@ impl Past {
             });
         }
         cells[..counts.cells as usize].copy_from_slice(&meaning.cells());
-        true
+        Some(meaning.clipped_from(first) as u32)
     }
 
     fn interpreted(&mut self, block: &Block) {
@@ -156,6 +159,14 @@ impl Past {
 
     pub fn forget(&mut self) {
         self.0 = Life::Unknown;
+    }
+}
+
+/// The answer of an accepted call.
+fn worked(counts: &Counts, block: &Block, clipped: u32) -> Worked {
+    Worked {
+        samples: block.ticks * counts.outputs,
+        clipped,
     }
 }
 

@@ -3,7 +3,7 @@
 
 use crate::arity::MOST_WIRES;
 use crate::engine::{Counts, Refusal};
-use crate::samples::{amount, operands, operate};
+use crate::samples::{amount, clipped, operands, operate};
 
 /// "Header: inputs n, outputs m, instruction count c, cell count."
 pub const HEADER: usize = 4;
@@ -95,7 +95,8 @@ fn instruction_fits(six: &Instruction, i: usize, counts: &Counts) -> bool {
 /// What an op gives for its inputs.
 pub type Operate = fn(u32, &[i32]) -> i32;
 
-/// Runs checked code on a block: `inputs` and `outputs` tick after tick.
+/// Runs checked code on a block: `inputs` and `outputs` tick after tick. Gives the count of ticks
+/// with a clipped delay.
 pub fn interpret(
     code: &[u32],
     inputs: &[u32],
@@ -103,8 +104,8 @@ pub fn interpret(
     cells: &mut [u32],
     outputs: &mut [u32],
     ticks: usize,
-) {
-    interpret_by(operate, code, inputs, controls, cells, outputs, ticks);
+) -> u32 {
+    interpret_by(operate, code, inputs, controls, cells, outputs, ticks)
 }
 
 /// The same with ops that may be wrong ones.
@@ -116,19 +117,24 @@ pub fn interpret_by(
     cells: &mut [u32],
     outputs: &mut [u32],
     ticks: usize,
-) {
+) -> u32 {
     let (n, m) = (code[0] as usize, code[1] as usize);
+    let mut clipped = 0;
     for tick in 0..ticks {
         let inputs = &inputs[tick * n..(tick + 1) * n];
         let traced = trace(operate, code, inputs, controls, cells);
         traced.give(code, &mut outputs[tick * m..(tick + 1) * m]);
+        clipped += u32::from(traced.clips());
     }
+    clipped
 }
 
-/// What a tick leaves: every register, and of each instruction whether it was worked.
+/// What a tick leaves: every register, and of each instruction whether it was worked, and whether it
+/// was a delay that was clipped.
 pub struct Trace {
     pub registers: Vec<u32>,
     pub worked: Vec<bool>,
+    pub clipped: Vec<bool>,
 }
 
 impl Trace {
@@ -137,6 +143,11 @@ impl Trace {
         for (output, &register) in outputs.iter_mut().zip(self::outputs(code)) {
             *output = self.registers[register as usize];
         }
+    }
+
+    /// E6: whether "at least one delay that was worked in that tick was clipped".
+    pub fn clips(&self) -> bool {
+        self.clipped.contains(&true)
     }
 }
 
@@ -152,17 +163,33 @@ pub fn trace(
     let mut registers = inputs.to_vec();
     // "At the start of a tick those are 0."
     registers.resize(n + c, 0);
-    let mut worked = vec![false; c];
+    let (mut worked, mut clipped) = (vec![false; c], vec![false; c]);
     let mut i = 0;
     while i < c {
         let six = instruction(code, i);
-        worked[i] = true;
-        i += 1 + step(operate, &six, n + i, &mut registers, controls, cells);
+        let step = step(operate, &six, n + i, &mut registers, controls, cells);
+        (worked[i], clipped[i]) = (true, matches!(step, Step::Clipped));
+        i += match step {
+            Step::Skip(many) => 1 + many,
+            _ => 1,
+        };
     }
-    Trace { registers, worked }
+    Trace {
+        registers,
+        worked,
+        clipped,
+    }
 }
 
-/// One instruction; gives how many it skips.
+/// What comes of an instruction besides its register.
+enum Step {
+    On,
+    /// Skips so many.
+    Skip(usize),
+    Clipped,
+}
+
+/// One instruction.
 fn step(
     operate: Operate,
     six: &Instruction,
@@ -170,7 +197,8 @@ fn step(
     registers: &mut [u32],
     controls: &[u32],
     cells: &mut [u32],
-) -> usize {
+) -> Step {
+    let mut step = Step::On;
     let [kind, a, b, c, d, _] = six.map(|number| number as usize);
     registers[own] = match kind {
         1 => six[1],
@@ -181,8 +209,11 @@ fn step(
             operate(six[1], &inputs[..many]) as u32
         }
         4 => {
-            let (input, ago) = (registers[a], amount(registers[b] as i32, six[4]));
-            delay(&mut cells[c..=c + d], input, ago as usize)
+            let (given, clips) = delay(&mut cells[c..=c + d], registers[a], registers[b] as i32);
+            if clips {
+                step = Step::Clipped;
+            }
+            given
         }
         5 => cells[a],
         6 => {
@@ -191,21 +222,26 @@ fn step(
         }
         // E1: "a demand when the clock isn't 0", "the skip instruction" too
         _ => {
-            return if registers[a] == 0 { b } else { 0 };
+            if registers[a] == 0 {
+                step = Step::Skip(b);
+            }
+            0
         }
     };
-    0
+    step
 }
 
 /// "It reads ring place p-A modulo D (its input if A is 0), then stores its input at p and
 /// moves p on by 1 modulo D. A position outside 0 to D-1 counts as 0. With D = 0 it touches
-/// nothing."
-fn delay(own: &mut [u32], input: u32, ago: usize) -> u32 {
+/// nothing." E6: "The delay step shall say with its value whether the amount was outside 0 to D."
+fn delay(own: &mut [u32], input: u32, second: i32) -> (u32, bool) {
     let (position, ring) = own.split_first_mut().expect("a position");
     let d = ring.len();
+    let clips = clipped(second, d as u32);
     if d == 0 {
-        return input;
+        return (input, clips);
     }
+    let ago = amount(second, d as u32) as usize;
     let p = if (*position as usize) < d {
         *position as usize
     } else {
@@ -218,5 +254,5 @@ fn delay(own: &mut [u32], input: u32, ago: usize) -> u32 {
     };
     ring[p] = input;
     *position = ((p + 1) % d) as u32;
-    given
+    (given, clips)
 }

@@ -1,5 +1,6 @@
 //! Cases of accepted circuits: a load, blocks on both memories, refused calls between them.
 
+use crate::amounts;
 use crate::arity::check;
 use crate::bad_codes::refused_code;
 use crate::bad_tables::damaged;
@@ -12,7 +13,7 @@ use crate::random::Random;
 use crate::script::Command;
 use crate::translate::code;
 
-/// What an input or a control is to the clocks and selectors of a circuit.
+/// What an input or a control is to the clocks, selectors and delays of a circuit.
 #[derive(Clone, Copy)]
 enum Role {
     None,
@@ -20,6 +21,8 @@ enum Role {
     Truth,
     /// A side of a difference or a product that is one.
     Side,
+    /// The amount of a delay of this D.
+    Amount(u32),
 }
 
 /// An accepted table and what a case needs to know of it.
@@ -44,6 +47,9 @@ impl Circuit {
                 }
             }
         };
+        for (signal, d) in graph.amounts() {
+            note(vec![signal], Role::Amount(d));
+        }
         note(graph.sides(), Role::Side);
         note(graph.tests(), Role::Truth);
         note(graph.clocks(), Role::Truth);
@@ -95,6 +101,10 @@ pub fn controls(random: &mut Random, circuit: &Circuit) -> Vec<u32> {
     let value = |role: &Role| match role {
         Role::Truth => clocks::value(random),
         Role::Side => random.pick(&near),
+        Role::Amount(d) => {
+            let out = random.percent(40);
+            amounts::amount(random, *d, out)
+        }
         Role::None if quiet => 3,
         Role::None => sample(random),
     };
@@ -109,15 +119,16 @@ pub fn controls(random: &mut Random, circuit: &Circuit) -> Vec<u32> {
 pub fn inputs(random: &mut Random, circuit: &Circuit, ticks: usize) -> Vec<u32> {
     let roles = &circuit.inputs[..circuit.counts.inputs as usize];
     let plain = random.percent(60);
-    let near = clocks::near(random);
-    let value = |role: &Role| match role {
+    let (near, mood) = (clocks::near(random), amounts::mood(random));
+    let value = |(tick, role): (usize, &Role)| match role {
         Role::Truth => clocks::value(random),
         Role::Side => random.pick(&near),
+        Role::Amount(d) => mood.amount(random, *d, tick, ticks),
         Role::None if plain => random.within(0, 9),
         Role::None => sample(random),
     };
-    let roles = std::iter::repeat_n(roles, ticks).flatten();
-    roles.map(value).map(|v| v as u32).collect()
+    let all = (0..ticks).flat_map(|tick| roles.iter().map(move |role| (tick, role)));
+    all.map(value).map(|v| v as u32).collect()
 }
 
 pub fn ticks(random: &mut Random) -> usize {

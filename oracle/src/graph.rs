@@ -51,6 +51,14 @@ pub enum Memory {
     },
 }
 
+/// A delay: its time, its amount and D.
+#[derive(Clone, Copy, Debug)]
+pub struct Delay {
+    pub time: Time,
+    pub amount: Id,
+    pub d: u32,
+}
+
 #[derive(Clone, Debug)]
 pub struct Graph {
     pub signals: Vec<(Signal, Time)>,
@@ -210,6 +218,27 @@ impl Graph {
     pub fn clocks(&self) -> Vec<&Signal> {
         let demands = self.demands[1..].iter();
         demands.map(|demand| self.outside(demand.clock)).collect()
+    }
+
+    /// Every delay of the circuit.
+    pub fn delays(&self) -> Vec<Delay> {
+        let delay = |(signal, time): &(Signal, Time)| match *signal {
+            Signal::Delay { amount, d, .. } => Some(Delay {
+                time: *time,
+                amount,
+                d,
+            }),
+            _ => None,
+        };
+        self.signals.iter().filter_map(delay).collect()
+    }
+
+    /// The amounts of delays, each with its D.
+    pub fn amounts(&self) -> Vec<(&Signal, u32)> {
+        let delays = self.delays().into_iter();
+        delays
+            .map(|delay| (self.outside(delay.amount), delay.d))
+            .collect()
     }
 
     /// The first inputs of selectors.

@@ -1,11 +1,13 @@
 //! Another implementation of the document: circuits as signals over time, and from them the
 //! expected output of scripts that are played on the proved entries.
 
+pub mod amounts;
 pub mod arity;
 pub mod bad_codes;
 pub mod bad_files;
 pub mod bad_tables;
 pub mod circuits;
+pub mod clip_cases;
 pub mod clocks;
 pub mod column;
 pub mod engine;

@@ -149,10 +149,11 @@ fn header(random: &mut Random) -> Vec<Command> {
 
 /// "ticks not 0 to 4,096"
 fn ticks(random: &mut Random) -> Vec<Command> {
-    let tree = match random.below(3) {
+    let amount = leaf(1, random.pick(&[4000, 4095, 4096, -1]));
+    let tree = match random.below(4) {
         0 => leaf(1, random.within(-3, 3)),
         1 => pair(7, leaf(2, 4), leaf(3, 9)),
-        _ => pair(7, pair(8, leaf(2, 1), leaf(1, 4000)), leaf(4, 4095)),
+        _ => pair(7, pair(8, leaf(2, 1), amount), leaf(4, 4095)),
     };
     let circuit = Circuit::of(table(random, &tree)).expect("an accepted table");
     let cells = circuit.counts.cells as usize;

@@ -4,7 +4,8 @@
 use crate::arity::{check, Checked};
 use crate::graph::{Graph, Id, Memory, Signal, Time};
 use crate::probes::Wire;
-use crate::samples::{amount, operate};
+use crate::samples::{amount, clipped, operate};
+use std::collections::BTreeSet;
 
 pub struct Meaning {
     graph: Graph,
@@ -95,6 +96,34 @@ impl Meaning {
         let id = self.graph.wires[wire.node][wire.output];
         let latest = self.reached(wire) as i64 - 1;
         self.value(id, latest) as u32
+    }
+
+    /// How many ticks the history has.
+    pub fn ticks(&self) -> usize {
+        self.inputs.len()
+    }
+
+    /// E6, "from the demands and amounts alone": in how many ticks of the history at least one delay
+    /// was clipped that has an own tick there.
+    pub fn clipped(&mut self) -> usize {
+        self.clipped_from(0)
+    }
+
+    /// The same among the ticks from one on.
+    pub fn clipped_from(&mut self, first: usize) -> usize {
+        let mut ticks = BTreeSet::new();
+        for delay in self.graph.delays() {
+            for own in (0..self.own_ticks(delay.time) as i64).rev() {
+                let at = self.root_tick(delay.time, own);
+                if at < first {
+                    break;
+                }
+                if clipped(self.value(delay.amount, own), delay.d) {
+                    ticks.insert(at);
+                }
+            }
+        }
+        ticks.len()
     }
 
     /// "Every signal is 0 before tick 0, constants and controls too."

@@ -80,10 +80,10 @@ impl Wires {
         let far = random.pick(&[-1, i32::MIN, i32::MAX, 512, -2]) as u32;
         let beyond = |node: u32| self.all.iter().filter(|pair| pair[0] == node).count() as u32;
         let node = random.below(self.nodes) as u32;
-        match random.below(10) {
+        match random.below(12) {
             0..=4 if !self.cuts.is_empty() => [random.pick(&self.cuts), 0],
-            0 | 5 => [self.nodes as u32, 0],
-            1 | 6 => [far, 0],
+            0 | 5 | 10 => [self.nodes as u32, 0],
+            1 | 6 | 11 => [far, 0],
             2 | 7 => [node, far],
             _ => [node, beyond(node)],
         }

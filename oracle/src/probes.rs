@@ -75,7 +75,8 @@ impl<'a> Recorder<'a> {
     }
 }
 
-/// Walks a block by the translation, whatever the cells hold, with ops that may be wrong ones.
+/// Walks a block by the translation, whatever the cells hold, with ops that may be wrong ones. Gives
+/// the count of ticks with a clipped delay.
 pub fn walk_by(
     operate: Operate,
     table: &[u32],
@@ -83,16 +84,19 @@ pub fn walk_by(
     cells: &mut [u32],
     outputs: &mut [u32],
     recorder: &mut Recorder,
-) {
+) -> u32 {
     let (code, places) = placed(table, &check(table).expect("an accepted table"));
     let (n, m) = (code[0] as usize, code[1] as usize);
     let wires = recorder.wires.clone();
+    let mut clipped = 0;
     for tick in 0..block.ticks as usize {
         let inputs = &block.inputs[tick * n..(tick + 1) * n];
         let traced = trace(operate, &code, inputs, block.controls, cells);
         traced.give(&code, &mut outputs[tick * m..(tick + 1) * m]);
         recorder.tick(tick, |i| shown(&code, &places, &traced, wires[i]));
+        clipped += u32::from(traced.clips());
     }
+    clipped
 }
 
 /// What a wire shows after a tick of the translation, if the tick has reached it: a body is reached

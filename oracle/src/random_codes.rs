@@ -73,6 +73,28 @@ fn random_code(random: &mut Random) -> Vec<u32> {
     code
 }
 
+/// Delays with skips over some of them, on cells that they share at will; clocks and amounts are
+/// inputs. A delay that is skipped does not count as clipped (E6).
+fn delays_code(random: &mut Random) -> Vec<u32> {
+    let (n, m, cells) = (4, random.below(3), 1 + random.below(8));
+    let c = 2 + random.below(6);
+    let mut code: Vec<u32> = [n, m, c, cells].map(|w| w as u32).to_vec();
+    for i in 0..c {
+        let left = c - i - 1;
+        if left > 0 && (i == 0 || random.percent(45)) {
+            let count = 1 + random.below(left.min(3));
+            code.extend([7, random.below(n) as u32, count as u32, 0, 0, 0]);
+            continue;
+        }
+        let (own, amount) = (n + i, random.below(n) as u32);
+        let mut delay = Place { own, left, cells }.fill(random, 4, 0);
+        delay[2] = amount;
+        code.extend(delay);
+    }
+    code.extend((0..m).map(|_| random.below(n + c) as u32));
+    code
+}
+
 /// Random code on cells full of one number or cleared.
 pub fn random_code_case(random: &mut Random) -> Vec<Command> {
     let near = Circuit::of(vec![5, 0, 0]).expect("a cable");
@@ -82,7 +104,10 @@ pub fn random_code_case(random: &mut Random) -> Vec<Command> {
         case.push(Command::Load(random.below(12) as u32, 12));
     }
     for _ in 0..1 + random.below(3) {
-        let mut code = random_code(random);
+        let mut code = match random.percent(45) {
+            true => delays_code(random),
+            false => random_code(random),
+        };
         if random.percent(25) {
             damage(random, &mut code);
         }

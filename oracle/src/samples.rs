@@ -46,3 +46,8 @@ pub fn operate(op: u32, inputs: &[i32]) -> i32 {
 pub fn amount(second: i32, d: u32) -> u32 {
     second.clamp(0, d as i32) as u32
 }
+
+/// E6: "whether the amount was outside 0 to D".
+pub fn clipped(second: i32, d: u32) -> bool {
+    second < 0 || second as u32 > d
+}

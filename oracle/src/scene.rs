@@ -3,7 +3,7 @@
 
 use crate::arity;
 use crate::column;
-use crate::engine::{Block, Counts, Engine, Probes, Refusal};
+use crate::engine::{Block, Counts, Engine, Probes, Refusal, Worked};
 use crate::entries::Past;
 use crate::flat::{HEADER, MOST_CODE, WIDTH};
 use crate::programs::played;
@@ -16,6 +16,7 @@ const MEMORY: usize = 17000;
 const LATEST: usize = 40;
 
 type Answer = Result<u32, Refusal>;
+type Work = Result<Worked, Refusal>;
 
 /// Whoever answers the calls of a scene.
 pub trait Actor {
@@ -25,7 +26,7 @@ pub trait Actor {
     fn translate(&mut self, table: &[u32], code: &mut [u32]) -> Answer;
     /// A load on the walks' memory (0) or the runs' (1).
     fn load(&mut self, memory: usize, named: u32, cells: &mut [u32]) -> Answer;
-    fn walk(&mut self, table: &[u32], block: &Block, cells: &mut [u32], out: &mut [u32]) -> Answer;
+    fn walk(&mut self, table: &[u32], block: &Block, cells: &mut [u32], out: &mut [u32]) -> Work;
     fn walk_probed(
         &mut self,
         table: &[u32],
@@ -33,8 +34,8 @@ pub trait Actor {
         cells: &mut [u32],
         out: &mut [u32],
         probes: &mut Probes,
-    ) -> Answer;
-    fn run(&mut self, code: &[u32], block: &Block, cells: &mut [u32], out: &mut [u32]) -> Answer;
+    ) -> Work;
+    fn run(&mut self, code: &[u32], block: &Block, cells: &mut [u32], out: &mut [u32]) -> Work;
     /// Both memories were set by the script.
     fn forget(&mut self) {}
 }
@@ -58,7 +59,7 @@ impl<E: Engine> Actor for Live<'_, E> {
     fn load(&mut self, _memory: usize, named: u32, cells: &mut [u32]) -> Answer {
         self.0.load(named, cells)
     }
-    fn walk(&mut self, table: &[u32], block: &Block, cells: &mut [u32], out: &mut [u32]) -> Answer {
+    fn walk(&mut self, table: &[u32], block: &Block, cells: &mut [u32], out: &mut [u32]) -> Work {
         let (ticks, inputs, controls) = (block.ticks, block.inputs, block.controls);
         self.0.walk(table, ticks, inputs, controls, cells, out)
     }
@@ -69,10 +70,10 @@ impl<E: Engine> Actor for Live<'_, E> {
         cells: &mut [u32],
         out: &mut [u32],
         probes: &mut Probes,
-    ) -> Answer {
+    ) -> Work {
         self.0.walk_probed(table, block, cells, out, probes)
     }
-    fn run(&mut self, code: &[u32], block: &Block, cells: &mut [u32], out: &mut [u32]) -> Answer {
+    fn run(&mut self, code: &[u32], block: &Block, cells: &mut [u32], out: &mut [u32]) -> Work {
         let (ticks, inputs, controls) = (block.ticks, block.inputs, block.controls);
         self.0.run(code, ticks, inputs, controls, cells, out)
     }
@@ -104,7 +105,7 @@ impl Actor for Oracle {
     fn load(&mut self, memory: usize, named: u32, cells: &mut [u32]) -> Answer {
         self.pasts[memory].load(named, cells)
     }
-    fn walk(&mut self, table: &[u32], block: &Block, cells: &mut [u32], out: &mut [u32]) -> Answer {
+    fn walk(&mut self, table: &[u32], block: &Block, cells: &mut [u32], out: &mut [u32]) -> Work {
         self.pasts[0].walk(table, block, cells, out)
     }
     fn walk_probed(
@@ -114,10 +115,10 @@ impl Actor for Oracle {
         cells: &mut [u32],
         out: &mut [u32],
         probes: &mut Probes,
-    ) -> Answer {
+    ) -> Work {
         self.pasts[0].walk_probed(table, block, cells, out, probes)
     }
-    fn run(&mut self, code: &[u32], block: &Block, cells: &mut [u32], out: &mut [u32]) -> Answer {
+    fn run(&mut self, code: &[u32], block: &Block, cells: &mut [u32], out: &mut [u32]) -> Work {
         let known = self.translated.iter().find(|(_, of)| of == code);
         let table = known.map(|(table, _)| table.as_slice());
         self.pasts[1].run(code, table, block, cells, out)
@@ -167,6 +168,14 @@ fn answer(answer: &Answer) -> String {
     }
 }
 
+/// What walker and runner answer: "two numbers", samples and clipped ticks.
+fn report(answer: &Work) -> String {
+    match answer {
+        Ok(worked) => format!("{} {}", worked.samples, worked.clipped),
+        Err(refusal) => refused(refusal),
+    }
+}
+
 fn refused(refusal: &Refusal) -> String {
     format!("refused {} {}", refusal.number, refusal.place)
 }
@@ -210,14 +219,14 @@ impl Scene {
                 let block = block(ticks, &self.inputs, &self.controls);
                 let lent = &mut self.memories[0][..cells];
                 let walked = actor.walk(&self.table, &block, lent, &mut out);
-                format!("walk {} |{}\n", answer(&walked), list(&out))
+                format!("walk {} |{}\n", report(&walked), list(&out))
             }
             Command::Run(ticks, cells, length) => {
                 let mut out = vec![9; length];
                 let block = block(ticks, &self.inputs, &self.controls);
                 let lent = &mut self.memories[1][..cells];
                 let ran = actor.run(&self.code, &block, lent, &mut out);
-                format!("run {} |{}\n", answer(&ran), list(&out))
+                format!("run {} |{}\n", report(&ran), list(&out))
             }
             Command::Probed(ref lent) => self.probed(lent, actor),
             Command::Cells(count) => {
@@ -279,7 +288,7 @@ impl Scene {
         let cells = &mut self.memories[0][..lent.cells];
         let walked = actor.walk_probed(&self.table, &block, cells, &mut out, &mut probes);
         let (out, latest, recorded) = (list(&out), list(latest), list(&recording));
-        let walked = answer(&walked);
+        let walked = report(&walked);
         format!("probed {walked} |{out}\nlatest{latest}\nrecorded{recorded}\n")
     }
 

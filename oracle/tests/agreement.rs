@@ -1,4 +1,4 @@
-//! The meaning against the flat code: two ways to the same samples and cells.
+//! The meaning against the flat code: two ways to the same samples, cells and reports.
 
 mod flat;
 
@@ -36,17 +36,19 @@ fn circuits() {
         let mut meaning = Meaning::of(&circuit.table);
         let mut cells = vec![0; circuit.counts.cells as usize];
         let n = circuit.counts.inputs as usize;
+        let mut reported = 0;
         for _ in 0..random.below(7) {
             let ticks = random.below(12);
             let given = inputs(&mut random, &circuit, ticks);
             let held = controls(&mut random, &circuit);
             let mut out = vec![9; ticks * circuit.counts.outputs as usize];
-            interpret(&code, &given, &held, &mut cells, &mut out, ticks);
+            reported += interpret(&code, &given, &held, &mut cells, &mut out, ticks);
             let want: Vec<u32> = (0..ticks)
                 .flat_map(|tick| meaning.tick(&given[tick * n..(tick + 1) * n], &held))
                 .collect();
             assert_eq!(out, want, "{:?}", circuit.table);
             assert_eq!(cells, meaning.cells(), "{:?}", circuit.table);
+            assert_eq!(reported as usize, meaning.clipped(), "{:?}", circuit.table);
         }
     }
 }

@@ -1,5 +1,8 @@
-//! What the default mix holds: every refusal, every kind, bodies that demands reach, and tables
-//! with several loose nodes.
+//! What the default mix holds: every refusal, every kind, bodies that demands reach, tables with
+//! several loose nodes, and delays that are clipped.
+
+mod flat;
+mod watched;
 
 use oracle::arity::{check, Node};
 use oracle::column::parse;
@@ -10,6 +13,7 @@ use oracle::play_cases::file;
 use oracle::random::Random;
 use oracle::script::{expected, plays_in_pieces, render, Command};
 use std::iter::successors;
+use watched::clips::Clips;
 
 #[test]
 fn refusals() {
@@ -274,6 +278,41 @@ fn loose_nodes_in_files() {
     tables.for_each(|table| seen.table(&table));
     println!("{seen:#?}");
     assert!(seen.holds(10));
+}
+
+/// E6: amounts outside 0 to D, at its ends and beside them; calls of which every tick, some or none
+/// is clipped; delays that are not worked.
+#[test]
+fn clipped_delays() {
+    let commands = generate(1, 3000);
+    let seen = Clips::of(&commands);
+    println!("{seen:#?}");
+    assert!(3 * seen.outside >= seen.delays);
+    assert!(3 * seen.without_ring_outside >= seen.without_ring);
+    assert!(3 * seen.silent >= seen.calls);
+    let often = [seen.idle, seen.twice, seen.first, seen.last, seen.early];
+    let mut often = often.iter().chain(&seen.amounts[..4]);
+    assert!(seen.always >= 100 && often.all(|&times| times >= 100));
+    let few = [seen.only_idle, seen.amounts[4], seen.amounts[5]];
+    assert!(few.iter().all(|&times| times >= 40), "{few:?}");
+}
+
+/// Codes that are nobody's translation: skips over delays whose amounts are outside.
+#[test]
+fn skipped_delays_of_codes() {
+    let commands = generate(1, 3000);
+    let cases = commands.chunk_by(|_, next| !matches!(next, Command::Title(_)));
+    let random = |case: &&[Command]| matches!(&case[0], Command::Title(title) if title.ends_with("random code"));
+    let seen = Clips::of(&cases.filter(random).collect::<Vec<_>>().concat());
+    println!("{seen:#?}");
+    let often = [
+        seen.silent,
+        seen.outside,
+        seen.idle,
+        seen.only_idle,
+        seen.twice,
+    ];
+    assert!(often.iter().all(|&times| times >= 7), "{often:?}");
 }
 
 /// A case does not depend on earlier ones.

@@ -30,6 +30,7 @@ impl Lent {
     }
 }
 
+/// A walk with probes; its count of samples.
 fn call(
     past: &mut Past,
     table: &[u32],
@@ -42,13 +43,9 @@ fn call(
         latest: &mut lent.latest,
         recording: &mut lent.recording,
     };
-    past.walk_probed(
-        table,
-        block,
-        &mut lent.cells,
-        &mut lent.outputs,
-        &mut probes,
-    )
+    let (cells, outputs) = (&mut lent.cells, &mut lent.outputs);
+    let answer = past.walk_probed(table, block, cells, outputs, &mut probes);
+    answer.map(|worked| worked.samples)
 }
 
 fn block<'a>(ticks: usize, inputs: &'a [u32], controls: &'a [u32]) -> Block<'a> {
@@ -358,7 +355,8 @@ fn any_list() {
         let mut plain = start.clone();
         let walked = &mut Past::default();
         let answer = walked.walk(&circuit.table, &block, &mut plain.cells, &mut plain.outputs);
-        assert_eq!(answer, Ok(plain.outputs.len() as u32));
+        let samples = answer.map(|worked| worked.samples);
+        assert_eq!(samples, Ok(plain.outputs.len() as u32));
         assert_eq!(plain.cells, together.cells);
         assert_eq!(plain.outputs, together.outputs);
         let pairs = start.latest.iter().zip(&together.latest);

@@ -35,7 +35,7 @@ latest -1
 probed 2 1 1 2 0
 ";
     let printed = "load 1 1
-probed 2 | 0 -6 9
+probed 2 0 | 0 -6 9
 latest -6*2 7
 recorded 7 0 -6*2 9
 probed refused 14 -1 |

@@ -99,7 +99,13 @@ pub fn load_cells(named: u32, cells: &mut [u32]) {
 fn show_walked(answer: WalkAnswer, outputs: &[u32]) {
     match answer {
         WalkAnswer::Refused(r) => show::refused(r),
-        WalkAnswer::Samples(n) => show::number(n),
+        WalkAnswer::Samples {
+            count: n,
+            clipped: k,
+        } => {
+            show::number(n);
+            show::number(k);
+        }
     }
     show_buffer(outputs);
 }
@@ -160,7 +166,13 @@ pub fn run_block(
     let answer = flat::run(code, ticks, inputs, controls, cells, outputs);
     match answer {
         RunAnswer::Refused(r) => show::refused(r),
-        RunAnswer::Samples(n) => show::number(n),
+        RunAnswer::Samples {
+            count: n,
+            clipped: k,
+        } => {
+            show::number(n);
+            show::number(k);
+        }
     }
     show_buffer(outputs);
 }

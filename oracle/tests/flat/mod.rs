@@ -2,7 +2,7 @@
 
 use oracle::arity::check;
 use oracle::column;
-use oracle::engine::{Block, Counts, Engine, Probes, Refusal};
+use oracle::engine::{Block, Counts, Engine, Probes, Refusal, Worked};
 use oracle::entries::Past;
 use oracle::translate::translate;
 
@@ -10,6 +10,7 @@ use oracle::translate::translate;
 pub struct Flat;
 
 type Answer = Result<u32, Refusal>;
+type Work = Result<Worked, Refusal>;
 
 impl Engine for Flat {
     fn check(&self, table: &[u32]) -> Result<Counts, Refusal> {
@@ -35,7 +36,7 @@ impl Engine for Flat {
         controls: &[u32],
         cells: &mut [u32],
         outputs: &mut [u32],
-    ) -> Answer {
+    ) -> Work {
         let block = Block {
             ticks,
             inputs,
@@ -50,7 +51,7 @@ impl Engine for Flat {
         cells: &mut [u32],
         outputs: &mut [u32],
         probes: &mut Probes,
-    ) -> Answer {
+    ) -> Work {
         Past::default().walk_probed(table, block, cells, outputs, probes)
     }
     fn run(
@@ -61,7 +62,7 @@ impl Engine for Flat {
         controls: &[u32],
         cells: &mut [u32],
         outputs: &mut [u32],
-    ) -> Answer {
+    ) -> Work {
         let block = Block {
             ticks,
             inputs,

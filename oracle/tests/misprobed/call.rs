@@ -2,13 +2,14 @@
 
 use crate::flat::Flat;
 use oracle::arity::{check, Checked, Node};
-use oracle::engine::{Block, Counts, Engine, Probes, Refusal};
+use oracle::engine::{Block, Counts, Engine, Probes, Refusal, Worked};
 use oracle::flat::{instruction, trace, Trace};
 use oracle::probes::{wires, Wire};
 use oracle::samples::operate;
 use oracle::translate::{placed, Place};
 
-pub type Answer = Result<u32, Refusal>;
+type Answer = Result<u32, Refusal>;
+pub type Work = Result<Worked, Refusal>;
 
 /// A walk with probes, on buffers of its own.
 #[derive(Clone)]
@@ -29,10 +30,10 @@ pub struct Rule {
     pub name: &'static str,
     /// In so many cases of the default mix, at least, it shows.
     pub least: usize,
-    probed: fn(&mut Call) -> Answer,
+    probed: fn(&mut Call) -> Work,
 }
 
-pub const fn rule(name: &'static str, least: usize, probed: fn(&mut Call) -> Answer) -> Rule {
+pub const fn rule(name: &'static str, least: usize, probed: fn(&mut Call) -> Work) -> Rule {
     Rule {
         name,
         least,
@@ -42,7 +43,7 @@ pub const fn rule(name: &'static str, least: usize, probed: fn(&mut Call) -> Ans
 
 impl Call {
     /// What the right rules do.
-    pub fn right(&mut self) -> Answer {
+    pub fn right(&mut self) -> Work {
         let block = Block {
             ticks: self.ticks,
             inputs: &self.inputs,
@@ -57,7 +58,7 @@ impl Call {
         Flat.walk_probed(&self.table, &block, cells, outputs, probes)
     }
 
-    pub fn answer(&self) -> Answer {
+    pub fn answer(&self) -> Work {
         self.clone().right()
     }
 
@@ -99,7 +100,7 @@ impl Call {
     }
 
     /// One refusal more, where the right rules take the call.
-    pub fn unless(&mut self, number: u32, refused: fn(&Call) -> bool) -> Answer {
+    pub fn unless(&mut self, number: u32, refused: fn(&Call) -> bool) -> Work {
         match self.answer().is_ok() && refused(self) {
             true => Err(Refusal::nowhere(number)),
             false => self.right(),
@@ -107,7 +108,7 @@ impl Call {
     }
 
     /// Every probe under the name that a wrong row 15 takes it for.
-    pub fn rename(&mut self, name: fn(u32, u32, &Checked) -> [u32; 2]) -> Answer {
+    pub fn rename(&mut self, name: fn(u32, u32, &Checked) -> [u32; 2]) -> Work {
         let checked = self.checked()?;
         for pair in self.named.chunks_exact_mut(2) {
             pair.copy_from_slice(&name(pair[0], pair[1], &checked));
@@ -116,7 +117,7 @@ impl Call {
     }
 
     /// Another choice of what a wire shows after a tick.
-    pub fn shown(&mut self, show: fn(&Seen) -> Option<u32>) -> Answer {
+    pub fn shown(&mut self, show: fn(&Seen) -> Option<u32>) -> Work {
         let answer = self.answer()?;
         let checked = self.checked()?;
         let wires = wires(&self.named, &checked)?;
@@ -195,7 +196,7 @@ impl Engine for Rule {
         controls: &[u32],
         cells: &mut [u32],
         outputs: &mut [u32],
-    ) -> Answer {
+    ) -> Work {
         Flat.walk(table, ticks, inputs, controls, cells, outputs)
     }
     fn walk_probed(
@@ -205,7 +206,7 @@ impl Engine for Rule {
         cells: &mut [u32],
         outputs: &mut [u32],
         probes: &mut Probes,
-    ) -> Answer {
+    ) -> Work {
         let mut call = Call {
             table: table.to_vec(),
             ticks: block.ticks,
@@ -233,7 +234,7 @@ impl Engine for Rule {
         controls: &[u32],
         cells: &mut [u32],
         outputs: &mut [u32],
-    ) -> Answer {
+    ) -> Work {
         Flat.run(code, ticks, inputs, controls, cells, outputs)
     }
 }

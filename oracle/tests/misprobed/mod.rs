@@ -4,7 +4,7 @@ mod call;
 
 pub use call::Rule;
 use call::{rule, Call};
-use oracle::engine::Refusal;
+use oracle::engine::{Refusal, Worked};
 use oracle::flat::MOST_CELLS;
 use oracle::probes::MOST_PROBES;
 
@@ -121,8 +121,11 @@ pub const RECORDED: [Rule; 17] = [
         call.right().inspect_err(|_| call.latest.fill(0))
     }),
     rule("the answer counts what is recorded", 200, |call| {
-        call.right()?;
-        Ok(call.ticks * call.many() as u32)
+        let answer = call.right()?;
+        Ok(Worked {
+            samples: call.ticks * call.many() as u32,
+            ..answer
+        })
     }),
 ];
 

@@ -2,7 +2,7 @@
 
 use oracle::arity::check;
 use oracle::column;
-use oracle::engine::{Block, Counts, Engine, Probes, Refusal};
+use oracle::engine::{Block, Counts, Engine, Probes, Refusal, Worked};
 use oracle::entries::Past;
 use oracle::flat::{instruction, interpret_by, length, Instruction, Operate, HEADER, WIDTH};
 use oracle::probes::{walk_by, wires, Recorder};
@@ -10,6 +10,7 @@ use oracle::samples::{operate, BEYOND, SELECTOR};
 use oracle::translate::{code, translate};
 
 type Answer = Result<u32, Refusal>;
+type Work = Result<Worked, Refusal>;
 
 /// What an engine with a wrong rule does to what it is given.
 #[derive(Clone, Copy)]
@@ -231,7 +232,7 @@ impl Engine for Wrong {
         controls: &[u32],
         cells: &mut [u32],
         outputs: &mut [u32],
-    ) -> Answer {
+    ) -> Work {
         let table = self.table(table);
         let block = Block {
             ticks,
@@ -243,8 +244,8 @@ impl Engine for Wrong {
         let answer = Past::default().walk(&table, &block, &mut own, &mut out)?;
         let code = code(&table, &check(&table).expect("an accepted table"));
         let ticks = ticks as usize;
-        interpret_by(self.operate, &code, inputs, controls, cells, outputs, ticks);
-        Ok(answer)
+        let clipped = interpret_by(self.operate, &code, inputs, controls, cells, outputs, ticks);
+        Ok(Worked { clipped, ..answer })
     }
     fn walk_probed(
         &self,
@@ -253,7 +254,7 @@ impl Engine for Wrong {
         cells: &mut [u32],
         outputs: &mut [u32],
         probes: &mut Probes,
-    ) -> Answer {
+    ) -> Work {
         let table = self.table(table);
         // As with a walk: the right answer first, on buffers of its own.
         let (mut own, mut out) = (cells.to_vec(), outputs.to_vec());
@@ -266,8 +267,8 @@ impl Engine for Wrong {
         let answer = Past::default().walk_probed(&table, block, &mut own, &mut out, &mut right)?;
         let wires = wires(probes.named, &check(&table).expect("an accepted table"))?;
         let mut recorder = Recorder::new(wires, block.ticks, probes)?;
-        walk_by(self.operate, &table, block, cells, outputs, &mut recorder);
-        Ok(answer)
+        let clipped = walk_by(self.operate, &table, block, cells, outputs, &mut recorder);
+        Ok(Worked { clipped, ..answer })
     }
     fn run(
         &self,
@@ -277,7 +278,7 @@ impl Engine for Wrong {
         controls: &[u32],
         cells: &mut [u32],
         outputs: &mut [u32],
-    ) -> Answer {
+    ) -> Work {
         let mut code = code.to_vec();
         (self.handed)(&mut code);
         let block = Block {
@@ -293,7 +294,7 @@ impl Engine for Wrong {
             }
         });
         let ticks = ticks as usize;
-        interpret_by(self.operate, &code, inputs, controls, cells, outputs, ticks);
-        Ok(answer)
+        let clipped = interpret_by(self.operate, &code, inputs, controls, cells, outputs, ticks);
+        Ok(Worked { clipped, ..answer })
     }
 }
