@@ -12,11 +12,12 @@
  * at: its pointer may be NULL. The buffers that are written are those without const; none of them may overlap another
  * buffer of the same call. One that is longer than needed keeps its content past the needed part.
  *
- * Answers. Every function answers one uint64_t. The upper 32 bits are the refusal's number, 0 if there is none. The
- * lower 32 bits are the count that the call calls for, or the refusal's place as a 32-bit two's complement number:
- * the line or node for refusals 1 to 9, else -1. A refused call writes to no buffer. Each function names its
- * refusals in the order in which they are looked for; "the table's" are 3 to 9 as circuit_check has them.
- * docs/FORMAT.md is the reference.
+ * Answers. Every call is answered by one uint64_t. Bits 0 to 31 are the count that the call calls for, or the refusal's
+ * place as a 32-bit two's complement number: the line or node for refusals 1 to 9, else -1. Bits 32 to 47 are the
+ * refusal's number, 0 if there is none. Bits 48 to 63 are the count of ticks with a clipped delay, 0 where nothing of the
+ * kind is reported. circuit_count, circuit_place, circuit_refusal and circuit_clipped read them. A refused call writes to no
+ * buffer. Each function names its refusals in the order in which they are looked for; "the table's" are 3 to 9 as
+ * circuit_check has them. docs/FORMAT.md is the reference.
  *
  * Calls from an audio thread. The functions keep no state of their own, allocate nothing, take no lock and make no
  * system call; of the C library they call memcpy, memset and the like, which compilers call unasked. Calls on different
@@ -93,7 +94,7 @@ enum {
 
 /* The refusal's number, 0 for an accepted call. */
 static inline uint32_t circuit_refusal(uint64_t answer) {
-    return (uint32_t)(answer >> 32);
+    return (uint32_t)(answer >> 32) & 0xffff;
 }
 
 /* The line or node of a refusal, or -1. */
@@ -106,6 +107,12 @@ static inline int32_t circuit_place(uint64_t answer) {
 static inline uint32_t circuit_count(uint64_t answer) {
     return (uint32_t)answer;
 }
+
+/* In how many ticks of an accepted walk or run at least one delay was clipped: worked with an amount outside 0 to D, which
+ * is then taken as 0 or as D. A delay in a body without demand, or in what a code skips, is not worked. Over several walks
+ * or runs of one circuit since a load, if nothing else has written its cells, these add up to the number that the circuit
+ * has over all their ticks. 0 for a refused call and for any other. */
+uint32_t circuit_clipped(uint64_t answer);
 
 /* Checks a table, three numbers to a node, and writes inputs, outputs, instructions and cells into the first four of
  * counts. Answers 4. The reported instructions and cells may lie above the limits.
@@ -132,7 +139,8 @@ uint64_t circuit_load(uint32_t named, int32_t *cells, size_t cells_length);
 
 /* Walks a table for a block of ticks. `inputs` has the circuit's n inputs of each tick, tick after tick; `controls`
  * holds for the whole call; the cells, at least as many as the table's count, go on from the last call; `outputs`, at
- * least ticks x m long, takes the m outputs of each tick. Answers with the count of output samples.
+ * least ticks x m long, takes the m outputs of each tick. Answers with the count of output samples, and that of the ticks
+ * with a clipped delay.
  * Refusals: the table's; 11; 14; 12. */
 uint64_t circuit_walk(const int32_t *table, size_t table_numbers, uint32_t ticks, const int32_t *inputs,
                       size_t inputs_length, const int32_t *controls, size_t controls_length, int32_t *cells,
@@ -151,8 +159,8 @@ uint64_t circuit_walk_probed(const int32_t *table, size_t table_numbers, const i
                              size_t outputs_length, int32_t *latest, size_t latest_length, int32_t *recording,
                              size_t recording_length);
 
-/* Runs a flat code for a block of ticks: as circuit_walk, with n, m and the count of cells of the code's header.
- * Any numbers may be given as code.
+/* Runs a flat code for a block of ticks: as circuit_walk, with n, m and the count of cells of the code's header, and with
+ * the same answer; of its delays those count as clipped that are not skipped. Any numbers may be given as code.
  * Refusals: 13; 14; 12. */
 uint64_t circuit_run(const int32_t *code, size_t code_numbers, uint32_t ticks, const int32_t *inputs,
                      size_t inputs_length, const int32_t *controls, size_t controls_length, int32_t *cells,

@@ -1,5 +1,5 @@
 /* What the header says of buffers and answers: empty ones, lengths of 64 bits, refusals that write nothing. And a
- * selector, in a table and in codes; and probes. */
+ * selector, in a table and in codes; probes; and clipped delays. */
 #include "circuit.h"
 
 #include <stdio.h>
@@ -197,6 +197,48 @@ static void short_for_probes(void) {
     }
 }
 
+/* What an answer reports; a refused call reports nothing. */
+static void report(const char *what, uint64_t answer, uint32_t number, int32_t place_or_count, int32_t clipped) {
+    expect(what, answer, number, place_or_count);
+    same(what, (int32_t)circuit_clipped(answer), clipped);
+}
+
+/* A delay with D = 2 on demand: the clock 1 1 0 1 1, the amount 3 2 3 -1 3, so that it is clipped at three demands. */
+static void clipped_delays(void) {
+    static const int32_t table[] = {4, 2, 0, 12, 0, 0}, named[] = {1, 0}, controls[CIRCUIT_CONTROLS];
+    static const int32_t inputs[] = {1, 10, 3, 1, 20, 2, 0, 30, 3, 1, 40, -1, 1, 50, 3};
+    int32_t code[CIRCUIT_HEADER_NUMBERS + 4 * CIRCUIT_INSTRUCTION_NUMBERS + 1];
+    int32_t walked[4] = {0}, probed[4] = {0}, ran[4] = {0}, outputs[5], latest[1] = {0}, recording[5];
+    size_t numbers = sizeof code / sizeof *code;
+    report("a translation", circuit_translate(table, 6, code, numbers), 0, (int32_t)numbers, 0);
+    report("a walk", circuit_walk(table, 6, 5, inputs, 15, controls, 16, walked, 4, outputs, 5), 0, 5, 3);
+    report("a probed walk",
+           circuit_walk_probed(table, 6, named, 2, 5, inputs, 15, controls, 16, probed, 4, outputs, 5, latest, 1, recording, 5),
+           0, 5, 3);
+    report("a run of two ticks", circuit_run(code, numbers, 2, inputs, 6, controls, 16, ran, 4, outputs, 5), 0, 2, 1);
+    report("a run of no ticks", circuit_run(code, numbers, 0, inputs, 0, controls, 16, ran, 4, outputs, 5), 0, 0, 0);
+    report("a run of three", circuit_run(code, numbers, 3, inputs + 6, 9, controls, 16, ran, 4, outputs, 5), 0, 3, 2);
+    for (int i = 0; i < 4; i++) {
+        same("cells with probes", probed[i], walked[i]);
+        same("cells of the runs", ran[i], walked[i]);
+    }
+    report("a refused table", circuit_walk(table, 5, 5, inputs, 15, controls, 16, walked, 4, outputs, 5), 3, 0, 0);
+    report("a refused block", circuit_walk(table, 6, 4, inputs, 15, controls, 16, walked, 4, outputs, 5), 14, -1, 0);
+    report("a short buffer", circuit_run(code, numbers, 5, inputs, 15, controls, 16, ran, 3, outputs, 5), 12, -1, 0);
+    report("a refused code", circuit_run(code, numbers - 1, 5, inputs, 15, controls, 16, ran, 4, outputs, 5), 13, -1, 0);
+}
+
+/* The four parts of an answer, each at its bits. */
+static void parts_of_an_answer(void) {
+    uint64_t accepted = ((uint64_t)4096 << 48) | 131072, refused = ((uint64_t)9 << 32) | 7;
+    same("clipped ticks", (int32_t)circuit_clipped(accepted), 4096);
+    same("refusal of an accepted call", (int32_t)circuit_refusal(accepted), 0);
+    same("count", (int32_t)circuit_count(accepted), 131072);
+    same("clipped ticks of a refusal", (int32_t)circuit_clipped(refused), 0);
+    same("refusal", (int32_t)circuit_refusal(refused), 9);
+    same("place", circuit_place(refused), 7);
+}
+
 int main(void) {
     empty_buffers();
     long_lengths();
@@ -206,5 +248,7 @@ int main(void) {
     probes();
     wrong_probes();
     short_for_probes();
+    clipped_delays();
+    parts_of_an_answer();
     return failures != 0;
 }

@@ -32,7 +32,7 @@ fn run(file: &[u8]) -> Result<(), String> {
     let controls = [0; CONTROLS];
     let mut outputs = [0; BLOCK * WIDTH];
     let mut block = |ticks: usize, inputs: &[i32]| {
-        let count = circuit::run(
+        let answer = circuit::run(
             code,
             ticks as u32,
             inputs,
@@ -40,7 +40,8 @@ fn run(file: &[u8]) -> Result<(), String> {
             &mut cells,
             &mut outputs,
         );
-        for tick in outputs[..count.map_err(refused("run"))?].chunks(m.max(1)) {
+        let samples = answer.map_err(refused("run"))?.samples;
+        for tick in outputs[..samples].chunks(m.max(1)) {
             let line: Vec<String> = tick.iter().map(i32::to_string).collect();
             println!("{}", line.join(" "));
         }

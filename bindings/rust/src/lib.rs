@@ -132,16 +132,36 @@ pub struct Counts {
     pub cells: u32,
 }
 
-/// The count, or the refusal: the refusal's number is the upper half of an answer, the count or the place the lower.
+/// What walker and runner answer to an accepted call.
+#[derive(Clone, Copy, Debug, PartialEq, Eq, Hash)]
+pub struct Worked {
+    /// The count of output samples, ticks times the circuit's outputs.
+    pub samples: usize,
+    /// In how many ticks of the call at least one delay was clipped: worked with an amount outside 0 to D, which is then
+    /// taken as 0 or as D. A delay in a body without demand, or in what a code skips, is not worked.
+    ///
+    /// Over several walks or runs of one circuit since a load, if nothing else has written its cells, these add up to the
+    /// number that the circuit has over all their ticks.
+    pub clipped: usize,
+}
+
+/// The count, or the refusal: bits 0 to 31 of an answer are the count or the place, bits 32 to 47 the refusal's number.
 fn decoded(answer: u64) -> Result<usize, Refusal> {
     let lower = answer as u32;
-    match (answer >> 32) as u32 {
+    match u32::from((answer >> 32) as u16) {
         0 => Ok(lower as usize),
         number => Err(Refusal {
             number,
             place: lower as i32,
         }),
     }
+}
+
+/// The same of a walk or a run: bits 48 to 63 are the count of ticks with a clipped delay.
+fn worked(answer: u64) -> Result<Worked, Refusal> {
+    let samples = decoded(answer)?;
+    let clipped = sys::clipped(answer) as usize;
+    Ok(Worked { samples, clipped })
 }
 
 /// Checks a table, three numbers to a node, and reports its inputs, outputs, instructions and cells.
@@ -187,10 +207,20 @@ pub fn load(named: u32, cells: &mut [i32]) -> Result<usize, Refusal> {
     decoded(sys::load(named, cells))
 }
 
-/// Walks a table for a block of ticks; gives the count of output samples.
+/// Walks a table for a block of ticks; gives the count of output samples, and that of the ticks with a clipped delay.
 ///
 /// `inputs` has the circuit's inputs of each tick, tick after tick; `controls` holds for the whole call; `cells`, at
 /// least as many as the table's count, go on from the last call; `outputs` takes the outputs of each tick.
+///
+/// ```
+/// // a delay of at most 2 ticks: the signal 10 20 30 40, the amount 1 2 5 -1
+/// let (mut cells, mut outputs) = ([0; 3], [0; 4]);
+/// let inputs = [10, 1, 20, 2, 30, 5, 40, -1];
+/// let worked = circuit::walk(&[4, 2, 0], 4, &inputs, &[0; circuit::CONTROLS], &mut cells, &mut outputs)?;
+/// assert_eq!(outputs, [0, 0, 10, 40]);
+/// assert_eq!(worked, circuit::Worked { samples: 4, clipped: 2 });
+/// # Ok::<(), circuit::Refusal>(())
+/// ```
 ///
 /// Refusals: the table's; 11; 14; 12. The table's are those of [`check`].
 pub fn walk(
@@ -200,7 +230,7 @@ pub fn walk(
     controls: &[i32],
     cells: &mut [i32],
     outputs: &mut [i32],
-) -> Result<usize, Refusal> {
+) -> Result<Worked, Refusal> {
     let block = sys::Block {
         ticks,
         inputs,
@@ -208,7 +238,7 @@ pub fn walk(
         cells,
         outputs,
     };
-    decoded(sys::walk(table, block))
+    worked(sys::walk(table, block))
 }
 
 /// Walks a table as [`walk`] does, with the same samples, cells and answer, and records up to [`PROBES`] wires.
@@ -247,7 +277,7 @@ pub fn walk_probed(
     outputs: &mut [i32],
     latest: &mut [i32],
     recording: &mut [i32],
-) -> Result<usize, Refusal> {
+) -> Result<Worked, Refusal> {
     let block = sys::Block {
         ticks,
         inputs,
@@ -260,10 +290,11 @@ pub fn walk_probed(
         latest,
         recording,
     };
-    decoded(sys::walk_probed(table, block, probes))
+    worked(sys::walk_probed(table, block, probes))
 }
 
-/// Runs a flat code for a block of ticks, as [`walk`] does a table; any numbers may be given as code.
+/// Runs a flat code for a block of ticks, as [`walk`] does a table; any numbers may be given as code. Of its delays those count
+/// as clipped that are not skipped.
 ///
 /// Fit for an audio thread: it allocates nothing, takes no lock, makes no system call, and its time grows with the
 /// instructions and the ticks alone.
@@ -276,7 +307,7 @@ pub fn run(
     controls: &[i32],
     cells: &mut [i32],
     outputs: &mut [i32],
-) -> Result<usize, Refusal> {
+) -> Result<Worked, Refusal> {
     let block = sys::Block {
         ticks,
         inputs,
@@ -284,5 +315,5 @@ pub fn run(
         cells,
         outputs,
     };
-    decoded(sys::run(code, block))
+    worked(sys::run(code, block))
 }

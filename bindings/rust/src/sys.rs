@@ -54,6 +54,7 @@ extern "C" {
         outputs: *mut i32,
         outputs_length: usize,
     ) -> u64;
+    fn circuit_clipped(answer: u64) -> u32;
 }
 
 pub fn check(table: &[i32], counts: &mut [u32; 4]) -> u64 {
@@ -162,4 +163,9 @@ pub fn walk_probed(table: &[i32], block: Block, probes: Probes) -> u64 {
 
 pub fn run(code: &[i32], block: Block) -> u64 {
     worked(circuit_run, code, block)
+}
+
+/// The count of ticks with a clipped delay, of the answer of a walk or a run.
+pub fn clipped(answer: u64) -> u32 {
+    unsafe { circuit_clipped(answer) }
 }

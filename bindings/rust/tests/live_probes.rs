@@ -5,7 +5,7 @@ use oracle::engine::{Block, Engine, Probes};
 use oracle::entries::Past;
 use oracle::good_cases::{circuit, controls, inputs, more, usual_size, Circuit};
 use oracle::random::Random;
-use proved::{seeded, Answer, Proved};
+use proved::{seeded, Proved, Work};
 
 mod proved;
 
@@ -30,8 +30,8 @@ impl Call {
     /// The answer of one who walks, and what it leaves.
     fn by(
         &self,
-        walk: impl FnOnce(&Block, &mut [u32], &mut [u32], &mut Probes) -> Answer,
-    ) -> (Answer, Lent) {
+        walk: impl FnOnce(&Block, &mut [u32], &mut [u32], &mut Probes) -> Work,
+    ) -> (Work, Lent) {
         let mut lent = self.lent.clone();
         let block = Block {
             ticks: self.ticks,
@@ -174,7 +174,7 @@ impl Probed {
     }
 
     /// What the engine answers and leaves, which is what the oracle does.
-    fn walk(&mut self, call: &Call) -> (Answer, Lent) {
+    fn walk(&mut self, call: &Call) -> (Work, Lent) {
         let (table, past) = (&self.circuit.table, &mut self.past);
         let wanted =
             call.by(|block, cells, out, probes| past.walk_probed(table, block, cells, out, probes));

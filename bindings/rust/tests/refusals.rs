@@ -1,6 +1,7 @@
 //! Every refusal by number and place; a refused call writes nothing; empty slices.
 use circuit::{
-    Refusal, CELLS, CODE_NUMBERS, CONTROLS, HEADER_NUMBERS, INSTRUCTION_NUMBERS, PROBE_NUMBERS,
+    Refusal, Worked, CELLS, CODE_NUMBERS, CONTROLS, HEADER_NUMBERS, INSTRUCTION_NUMBERS,
+    PROBE_NUMBERS,
 };
 
 const INTEGRATOR: [i32; 9] = [3, 1, 0, 5, 0, 0, 11, 0, 1];
@@ -10,6 +11,11 @@ const SILENT: [i32; CONTROLS] = [0; CONTROLS];
 
 fn refusal<T>(number: u32, place: i32) -> Result<T, Refusal> {
     Err(Refusal { number, place })
+}
+
+/// The count of samples that walker or runner answer with.
+fn samples(answer: Result<Worked, Refusal>) -> Result<usize, Refusal> {
+    answer.map(|worked| worked.samples)
 }
 
 fn line(number: &str, kind: &str, first: &str, second: &str) -> String {
@@ -38,7 +44,7 @@ fn probed(
         table, probes, ticks, inputs, &SILENT, cells, outputs, latest, recording,
     );
     assert!(answer.is_ok() || buffers == lent.map(|length| vec![9; length]));
-    answer
+    samples(answer)
 }
 
 /// The answer of check, translator and walker to a refused table.
@@ -47,10 +53,8 @@ fn unchecked(nodes: &[[i32; 3]]) -> Result<usize, Refusal> {
     let (mut code, mut cells, mut outputs) = ([9; 99], [9; 99], [9; 99]);
     let answer = circuit::translate(&table, &mut code);
     assert_eq!(circuit::check(&table).map(|_| 0), answer);
-    assert_eq!(
-        circuit::walk(&table, 0, &[], &SILENT, &mut cells, &mut outputs),
-        answer
-    );
+    let walked = circuit::walk(&table, 0, &[], &SILENT, &mut cells, &mut outputs);
+    assert_eq!(samples(walked), answer);
     assert_eq!((code, cells, outputs), ([9; 99], [9; 99], [9; 99]));
     assert_eq!(probed(&table, &[0], 4097, &[], [0; 4]), answer);
     answer
@@ -184,7 +188,7 @@ fn codes_and_blocks() {
                 &mut written[..outputs],
             );
             assert!(answer.is_ok() || (lent, written) == ([9; 3], [9; 3]));
-            answer
+            samples(answer)
         };
     assert_eq!(
         run(&code[..INTEGRATOR_CODE - 1], 2, &[1, 2], &SILENT, 1, 2),
@@ -204,7 +208,7 @@ fn ran(instruction: &[i32]) -> Result<usize, Refusal> {
     let (mut cells, mut outputs) = ([9; 2], [9; 1]);
     let answer = circuit::run(&code, 1, &[0, 7, 8], &SILENT, &mut cells, &mut outputs);
     assert!(answer.is_ok() || (cells, outputs) == ([9; 2], [9; 1]));
-    answer
+    samples(answer)
 }
 
 /// E4: "every instruction has six numbers, the sixth 0 except for op 10, where it is the third input register; the fifth
@@ -357,9 +361,13 @@ fn empty_slices() {
     assert_eq!(circuit::translate(&number, &mut []), refusal(12, -1));
     assert_eq!(circuit::load(0, &mut []), Ok(0));
     assert_eq!(circuit::load(1, &mut []), refusal(12, -1));
+    let nothing = Worked {
+        samples: 0,
+        clipped: 0,
+    };
     assert_eq!(
         circuit::walk(&number, 0, &[], &SILENT, &mut [], &mut []),
-        Ok(0)
+        Ok(nothing)
     );
     assert_eq!(
         circuit::walk(&[], 0, &[], &[], &mut [], &mut []),
@@ -367,7 +375,7 @@ fn empty_slices() {
     );
     assert_eq!(
         circuit::run(&[0, 0, 0, 0], 0, &[], &SILENT, &mut [], &mut []),
-        Ok(0)
+        Ok(nothing)
     );
     assert_eq!(probed(&number, &[], 0, &[], [0; 4]), Ok(0));
     assert_eq!(

@@ -1,6 +1,6 @@
 //! The document's samples, those of E1 and selectors, through walker and runner, in one call and tick by tick.
 use circuit::{
-    Counts, Refusal, CELLS, CODE_NUMBERS, CONTROLS, FILE_BYTES, HEADER_NUMBERS,
+    Counts, Refusal, Worked, CELLS, CODE_NUMBERS, CONTROLS, FILE_BYTES, HEADER_NUMBERS,
     INSTRUCTION_NUMBERS, TABLE_NUMBERS,
 };
 
@@ -43,8 +43,8 @@ fn played(nodes: &[Node], ticks: usize, inputs: &[i32], block: usize) -> Vec<i32
             &mut walked,
             &mut outputs,
         );
-        assert_eq!(answer, Ok(now * m));
-        let answer = circuit::run(
+        assert_eq!(answer.map(|worked| worked.samples), Ok(now * m));
+        let same = circuit::run(
             &code[..numbers],
             now as u32,
             part,
@@ -52,7 +52,7 @@ fn played(nodes: &[Node], ticks: usize, inputs: &[i32], block: usize) -> Vec<i32
             &mut ran,
             &mut again,
         );
-        assert_eq!(answer, Ok(now * m));
+        assert_eq!(same, answer);
         assert_eq!(outputs, again);
         assert_eq!(walked, ran);
         all.extend(outputs);
@@ -296,18 +296,21 @@ fn cells_at_the_limit() {
             &mut cells,
             &mut outputs
         ),
-        Ok(4)
+        Ok(Worked {
+            samples: 4,
+            clipped: 0
+        })
     );
     assert_eq!(outputs, [0, 0, 0, 0, 9]);
-    let eleven = Err(Refusal {
+    let eleven = Refusal {
         number: 11,
         place: -1,
-    });
+    };
     assert_eq!(
         circuit::check(&delays(5)).map(|counts| counts.cells),
         Ok(20480)
     );
-    assert_eq!(circuit::translate(&delays(5), &mut code), eleven);
+    assert_eq!(circuit::translate(&delays(5), &mut code), Err(eleven));
     assert_eq!(
         circuit::walk(
             &delays(5),
@@ -317,7 +320,7 @@ fn cells_at_the_limit() {
             &mut cells,
             &mut outputs
         ),
-        eleven
+        Err(eleven)
     );
 }
 

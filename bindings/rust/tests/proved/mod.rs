@@ -1,6 +1,6 @@
 //! The package as an engine that the oracle's cases are played on; and the seed of the cases, which is taken from the clock
 //! and printed: `SEED=n` plays them again, `CASES=n` plays so many.
-use oracle::engine::{Block, Counts, Engine, Probes, Refusal};
+use oracle::engine::{Block, Counts, Engine, Probes, Refusal, Worked};
 use std::env;
 use std::io::{stderr, Write};
 use std::time::{SystemTime, UNIX_EPOCH};
@@ -8,7 +8,8 @@ use std::time::{SystemTime, UNIX_EPOCH};
 /// The wrapper as an engine of the oracle, whose numbers are the words.
 pub struct Proved;
 
-pub type Answer = Result<u32, Refusal>;
+type Answer = Result<u32, Refusal>;
+pub type Work = Result<Worked, Refusal>;
 
 fn signed(words: &[u32]) -> Vec<i32> {
     words.iter().map(|&word| word as i32).collect()
@@ -34,6 +35,14 @@ fn refusal(refusal: circuit::Refusal) -> Refusal {
 
 fn answer(answer: Result<usize, circuit::Refusal>) -> Answer {
     answer.map(|count| count as u32).map_err(refusal)
+}
+
+fn work(answer: Result<circuit::Worked, circuit::Refusal>) -> Work {
+    let worked = answer.map_err(refusal)?;
+    Ok(Worked {
+        samples: worked.samples as u32,
+        clipped: worked.clipped as u32,
+    })
 }
 
 impl Engine for Proved {
@@ -71,9 +80,9 @@ impl Engine for Proved {
         controls: &[u32],
         cells: &mut [u32],
         outputs: &mut [u32],
-    ) -> Answer {
+    ) -> Work {
         let (table, inputs, controls) = (signed(table), signed(inputs), signed(controls));
-        answer(lent(cells, |cells| {
+        work(lent(cells, |cells| {
             lent(outputs, |outputs| {
                 circuit::walk(&table, ticks, &inputs, &controls, cells, outputs)
             })
@@ -87,10 +96,10 @@ impl Engine for Proved {
         cells: &mut [u32],
         outputs: &mut [u32],
         probes: &mut Probes,
-    ) -> Answer {
+    ) -> Work {
         let (table, named) = (signed(table), signed(probes.named));
         let (inputs, controls) = (signed(block.inputs), signed(block.controls));
-        answer(lent(cells, |cells| {
+        work(lent(cells, |cells| {
             lent(outputs, |outputs| {
                 lent(probes.latest, |latest| {
                     lent(probes.recording, |recording| {
@@ -119,9 +128,9 @@ impl Engine for Proved {
         controls: &[u32],
         cells: &mut [u32],
         outputs: &mut [u32],
-    ) -> Answer {
+    ) -> Work {
         let (code, inputs, controls) = (signed(code), signed(inputs), signed(controls));
-        answer(lent(cells, |cells| {
+        work(lent(cells, |cells| {
             lent(outputs, |outputs| {
                 circuit::run(&code, ticks, &inputs, &controls, cells, outputs)
             })
