@@ -40,7 +40,9 @@ static uint32_t selected(uint32_t first, uint32_t second, uint32_t third) {
     return first == 0 ? second : third;
 }
 
-static uint32_t delay(uint32_t *line, uint32_t d, uint32_t input, uint32_t amount) {
+// Sets *clipped where the amount is outside 0 to d: as an unsigned number, a negative one is above every d.
+static uint32_t delay(uint32_t *line, uint32_t d, uint32_t input, uint32_t amount, uint32_t *clipped) {
+    *clipped |= amount > d;
     if (d == 0)
         return input;
     uint32_t *ring = line + 1;
@@ -52,14 +54,15 @@ static uint32_t delay(uint32_t *line, uint32_t d, uint32_t input, uint32_t amoun
     return value;
 }
 
-// The instructions from x to end; the first writes the register *own. Skipped ones have 0 in theirs.
-static void tick(const struct instruction *x, const struct instruction *end, const uint32_t *controls,
-                 uint32_t *own, uint32_t *r, uint32_t *cells) {
+// The instructions from x to end; the first writes the register *own. Skipped ones have 0 in theirs. Was a delay clipped?
+static uint32_t tick(const struct instruction *x, const struct instruction *end, const uint32_t *controls,
+                     uint32_t *own, uint32_t *r, uint32_t *cells) {
+    uint32_t clipped = 0;
     for (; x < end; x++, own++) {
         switch (x->what) {
         case NUMBER: *own = x->a; break;
         case CONTROL: *own = controls[x->a]; break;
-        case DELAY: *own = delay(cells + x->c, x->d, r[x->a], r[x->b]); break;
+        case DELAY: *own = delay(cells + x->c, x->d, r[x->a], r[x->b], &clipped); break;
         case READ: *own = cells[x->a]; break;
         case WRITE: cells[x->a] = r[x->b]; *own = 0; break;
         case SKIP:
@@ -82,12 +85,13 @@ static void tick(const struct instruction *x, const struct instruction *end, con
         case SELECT: *own = selected(r[x->a], r[x->b], r[x->c]); break;
         }
     }
+    return clipped;
 }
 
-// A block of ticks; answers with the count of output samples.
-int run_c(const uint32_t *code, uint32_t ticks, const uint32_t *inputs, const uint32_t *controls,
-          uint32_t *cells, uint32_t *outputs) {
-    uint32_t n = code[0], m = code[1], count = code[2];
+// A block of ticks; answers as circuit_run does, with the counts of output samples and of ticks with a clipped delay.
+uint64_t run_c(const uint32_t *code, uint32_t ticks, const uint32_t *inputs, const uint32_t *controls,
+               uint32_t *cells, uint32_t *outputs) {
+    uint32_t n = code[0], m = code[1], count = code[2], clipped = 0;
     const uint32_t *results = code + CIRCUIT_HEADER_NUMBERS + (size_t)CIRCUIT_INSTRUCTION_NUMBERS * count;
     struct instruction program[CIRCUIT_INSTRUCTIONS];
     uint32_t registers[REGISTERS];
@@ -95,9 +99,9 @@ int run_c(const uint32_t *code, uint32_t ticks, const uint32_t *inputs, const ui
     for (uint32_t t = 0; t < ticks; t++) {
         for (uint32_t i = 0; i < n; i++)
             registers[i] = *inputs++;
-        tick(program, program + count, controls, registers + n, registers, cells);
+        clipped += tick(program, program + count, controls, registers + n, registers, cells);
         for (uint32_t i = 0; i < m; i++)
             *outputs++ = registers[results[i]];
     }
-    return (int)(ticks * m);
+    return ((uint64_t)clipped << 48) | ticks * m;
 }

@@ -1,6 +1,6 @@
 //! A circuit made ready to run, and the implementations that run it.
 use crate::circuits::Circuit;
-use crate::engine::{self, Block, Counts, HEADER_NUMBERS, INSTRUCTION_NUMBERS};
+use crate::engine::{self, Block, Counts, HEADER_NUMBERS, INSTRUCTION_NUMBERS, Worked};
 use crate::interpreter;
 use crate::random::Random;
 
@@ -123,7 +123,7 @@ impl Case {
 }
 
 /// Runs a code or walks a table: program, block, cells, outputs.
-pub type Run = fn(&[u32], &Block, &mut [u32], &mut [u32]) -> usize;
+pub type Run = fn(&[u32], &Block, &mut [u32], &mut [u32]) -> Worked;
 
 pub struct Implementation<'a> {
     pub name: &'static str,
@@ -134,7 +134,7 @@ pub struct Implementation<'a> {
 }
 
 impl Implementation<'_> {
-    pub fn play(&mut self, block: &Block) -> usize {
+    pub fn play(&mut self, block: &Block) -> Worked {
         (self.run)(self.program, block, &mut self.cells, &mut self.outputs)
     }
 }

@@ -71,7 +71,7 @@ macro_rules! interpreter {
                 controls: *const u32,
                 cells: *mut u32,
                 outputs: *mut u32,
-            ) -> i32;)*
+            ) -> u64;)*
         }
     };
 }
@@ -81,10 +81,29 @@ engine! { circuit_run_0 circuit_run_1 circuit_run_2 circuit_run_3 }
 probed! { circuit_walk_probed_0 circuit_walk_probed_1 circuit_walk_probed_2 circuit_walk_probed_3 }
 interpreter! { run_c_0 run_c_1 run_c_2 run_c_3 }
 
+/// The refusal's number of an answer, bits 32 to 47, 0 if there is none.
+pub fn refusal(answer: u64) -> u16 {
+    (answer >> 32) as u16
+}
+
 /// The count of an answer that is no refusal.
 fn count(answer: u64) -> usize {
-    assert_eq!(answer >> 32, 0, "refused, place {}", answer as i32);
+    assert_eq!(refusal(answer), 0, "refused, place {}", answer as i32);
     answer as u32 as usize
+}
+
+/// What an accepted call on a block of ticks answers: the counts of output samples and of ticks with a clipped delay.
+#[derive(Clone, Copy, Debug, PartialEq)]
+pub struct Worked {
+    pub samples: usize,
+    pub clipped: usize,
+}
+
+fn worked(answer: u64) -> Worked {
+    Worked {
+        samples: count(answer),
+        clipped: (answer >> 48) as usize,
+    }
 }
 
 pub struct Counts {
@@ -140,7 +159,7 @@ pub struct Block<'a> {
 
 macro_rules! call {
     ($name:expr, $program:expr, $block:expr, $cells:expr, $outputs:expr) => {
-        count(unsafe {
+        worked(unsafe {
             $name(
                 $program.as_ptr(),
                 $program.len(),
@@ -164,7 +183,7 @@ pub fn walk<const K: usize>(
     block: &Block,
     cells: &mut [u32],
     outputs: &mut [u32],
-) -> usize {
+) -> Worked {
     let entry = [
         circuit_walk_0,
         circuit_walk_1,
@@ -225,8 +244,8 @@ pub fn walk_probed<const K: usize>(
     cells: &mut [u32],
     outputs: &mut [u32],
     probes: Probes,
-) -> usize {
-    count(walk_probed_raw::<K>(table, block, cells, outputs, probes))
+) -> Worked {
+    worked(walk_probed_raw::<K>(table, block, cells, outputs, probes))
 }
 
 /// Does the probe name an output of the table? Without any room a walk is refused: with 15 if not, else with 12.
@@ -241,7 +260,8 @@ pub fn names_output(table: &[u32], probe: [u32; 2]) -> bool {
         latest: &mut [],
         recording: &mut [],
     };
-    walk_probed_raw::<0>(table, &block, &mut [], &mut [], probes) >> 32 == 12
+    let answer = walk_probed_raw::<0>(table, &block, &mut [], &mut [], probes);
+    refusal(answer) == 12
 }
 
 /// The copy K of the runner.
@@ -250,7 +270,7 @@ pub fn run<const K: usize>(
     block: &Block,
     cells: &mut [u32],
     outputs: &mut [u32],
-) -> usize {
+) -> Worked {
     let entry = [circuit_run_0, circuit_run_1, circuit_run_2, circuit_run_3][K];
     call!(entry, code, block, cells, outputs)
 }
@@ -261,12 +281,12 @@ pub fn run_in_c<const K: usize>(
     block: &Block,
     cells: &mut [u32],
     outputs: &mut [u32],
-) -> usize {
+) -> Worked {
     let [n, m, count] = [0, 1, 3].map(|i| code[i] as usize);
     assert!(block.inputs.len() == block.ticks * n && block.controls.len() == 16);
     assert!(outputs.len() >= block.ticks * m && cells.len() >= count);
     let entry = [run_c_0, run_c_1, run_c_2, run_c_3][K];
-    let samples = unsafe {
+    worked(unsafe {
         entry(
             code.as_ptr(),
             block.ticks as u32,
@@ -275,6 +295,5 @@ pub fn run_in_c<const K: usize>(
             cells.as_mut_ptr(),
             outputs.as_mut_ptr(),
         )
-    };
-    samples as usize
+    })
 }

@@ -1,5 +1,5 @@
 //! The same interpreter in safe Rust: flat code, decoded once a call, then one match an instruction.
-use crate::engine::{Block, HEADER_NUMBERS, INSTRUCTION_NUMBERS};
+use crate::engine::{Block, HEADER_NUMBERS, INSTRUCTION_NUMBERS, Worked};
 use std::hint::black_box;
 
 const REGISTERS: usize = 32 + 2048;
@@ -61,9 +61,11 @@ fn remainder(a: u32, b: u32) -> u32 {
     (a as i32).wrapping_rem(b as i32) as u32
 }
 
-fn delay(line: &mut [u32], input: u32, amount: u32) -> u32 {
+/// Sets `clipped` where the amount is outside 0 to D: as an unsigned number, a negative one is above every D.
+fn delay(line: &mut [u32], input: u32, amount: u32, clipped: &mut bool) -> u32 {
     let (position, ring) = line.split_first_mut().expect("a delay has a cell");
     let d = ring.len();
+    *clipped |= amount as usize > d;
     if d == 0 {
         return input;
     }
@@ -83,6 +85,7 @@ fn delay(line: &mut [u32], input: u32, amount: u32) -> u32 {
     value
 }
 
+/// Was a delay clipped?
 #[inline(always)]
 fn tick(
     program: &[Instruction],
@@ -90,9 +93,10 @@ fn tick(
     controls: &[u32],
     r: &mut [u32; REGISTERS],
     cells: &mut [u32],
-) {
+) -> bool {
     use Instruction::*;
     let mut i = 0;
+    let mut clipped = false;
     while let Some(&x) = program.get(i) {
         let own = first + i;
         i += 1;
@@ -109,7 +113,7 @@ fn tick(
             Absolute(a) => (r[a] as i32).unsigned_abs(),
             Negate(a) => r[a].wrapping_neg(),
             Select(a, b, c) => r[if r[a] == 0 { b } else { c }],
-            Delay(a, b, cell, d) => delay(&mut cells[cell..=cell + d], r[a], r[b]),
+            Delay(a, b, cell, d) => delay(&mut cells[cell..=cell + d], r[a], r[b], &mut clipped),
             Read(cell) => cells[cell],
             Write(cell, a) => {
                 cells[cell] = r[a];
@@ -124,28 +128,33 @@ fn tick(
             }
         };
     }
+    clipped
 }
 
-/// Runs a code that has passed the check; answers with the count of output samples.
+/// Runs a code that has passed the check.
 /// The copies differ in their number alone, which keeps the compiler from making them one.
 pub fn run<const COPY: usize>(
     code: &[u32],
     block: &Block,
     cells: &mut [u32],
     outputs: &mut [u32],
-) -> usize {
+) -> Worked {
     black_box(COPY);
     let [n, m, count] = [0, 1, 2].map(|i| code[i] as usize);
     let (instructions, results) = code[HEADER_NUMBERS..].split_at(INSTRUCTION_NUMBERS * count);
     let instructions = instructions.chunks_exact(INSTRUCTION_NUMBERS);
     let program: Vec<Instruction> = instructions.map(decode).collect();
     let mut r = [0; REGISTERS];
+    let mut clipped = 0;
     for t in 0..block.ticks {
         r[..n].copy_from_slice(&block.inputs[t * n..][..n]);
-        tick(&program, n, block.controls, &mut r, cells);
+        clipped += usize::from(tick(&program, n, block.controls, &mut r, cells));
         for (output, &register) in outputs[t * m..][..m].iter_mut().zip(results) {
             *output = r[register as usize];
         }
     }
-    block.ticks * m
+    Worked {
+        samples: block.ticks * m,
+        clipped,
+    }
 }

@@ -1,12 +1,12 @@
 //! The walker with probes.
 use crate::case::{Case, TICKS};
-use crate::engine::{self, Block, Probes};
+use crate::engine::{self, Block, Probes, Worked};
 
 /// The most probes of a call.
 pub const MOST: usize = 16;
 
 /// Walks a table with probes: table, block, cells, outputs, probes.
-type Walk = fn(&[u32], &Block, &mut [u32], &mut [u32], Probes) -> usize;
+type Walk = fn(&[u32], &Block, &mut [u32], &mut [u32], Probes) -> Worked;
 
 /// A circuit walked with probes; cells and list go on from call to call.
 pub struct Probed<'a> {
@@ -49,7 +49,7 @@ impl<'a> Probed<'a> {
         walks.map(|walk| Probed::new(case, probes, walk))
     }
 
-    pub fn play(&mut self, block: &Block) -> usize {
+    pub fn play(&mut self, block: &Block) -> Worked {
         let probes = Probes {
             named: &self.named,
             latest: &mut self.latest,

@@ -155,7 +155,7 @@ fn fits(table: &[u32], nodes: usize) -> bool {
     table.len() == 3 * nodes
         && all_kinds
         && all_ops
-        && engine::check_raw(table, &mut counts) >> 32 == 0
+        && engine::refusal(engine::check_raw(table, &mut counts)) == 0
         && counts[2] <= 2048
         && counts[3] <= 16384
 }

@@ -58,7 +58,7 @@ fn title() {
 
 fn circuits(cases: &[Case]) {
     let text = "Before the measurement, runner, walker, with probes and without, and both hand-written interpreters gave \
-                the same samples and cells on each circuit, over several blocks; runner and interpreters also on 1,000 \
+                the same samples, reports and cells on each circuit, over several blocks; runner and interpreters also on 1,000 \
                 random codes.";
     let columns = "circuit | nodes | inputs | outputs | instructions | cells";
     heading("Circuits", text, columns);

@@ -1,27 +1,34 @@
-//! Before anything is measured: all implementations give the same samples and leave the same cells.
+//! Before anything is measured: all implementations give the same samples and reports, and leave the same cells.
 use crate::case::{Case, Implementation, Run};
-use crate::engine::{self, Block};
+use crate::engine::{self, Block, Worked};
 use crate::interpreter;
 use crate::probes::{self, Probed};
 use crate::random::{self, Random};
 
-/// One block by everyone; the first implementation is the one that the others are held to.
-fn agree(title: &str, implementations: &mut [Implementation], block: &Block) {
-    let counts: Vec<usize> = implementations.iter_mut().map(|c| c.play(block)).collect();
+/// One block by everyone; the first implementation is the one that the others are held to. Gives its answer.
+fn agree(title: &str, implementations: &mut [Implementation], block: &Block) -> Worked {
+    let answers: Vec<Worked> = implementations.iter_mut().map(|c| c.play(block)).collect();
     let first = &implementations[0];
-    for (other, count) in implementations.iter().zip(&counts) {
+    for (other, answer) in implementations.iter().zip(&answers) {
         let name = other.name;
-        assert_eq!(*count, counts[0], "{title}: count of {name}");
+        assert_eq!(*answer, answers[0], "{title}: answer of {name}");
         assert!(other.outputs == first.outputs, "{title}: samples of {name}");
         assert!(other.cells == first.cells, "{title}: cells of {name}");
     }
+    answers[0]
 }
 
-/// A block with probes: samples and cells are the walker's, and the last probe, of the circuit itself, shows its output.
-fn agree_probed(case: &Case, walker: &Implementation, probed: &mut Probed, block: &Block) {
-    let (count, m) = (probed.play(block), case.counts.outputs);
+/// A block with probes: answer, samples and cells are the walker's, and the last probe, of the circuit itself, shows its output.
+fn agree_probed(
+    case: &Case,
+    walked: Worked,
+    walker: &Implementation,
+    probed: &mut Probed,
+    block: &Block,
+) {
+    let m = case.counts.outputs;
     let title = format!("{}: with probes", case.name);
-    assert_eq!(count, block.ticks * m, "{title}, count");
+    assert_eq!(probed.play(block), walked, "{title}, answer");
     assert!(probed.outputs == walker.outputs, "{title}, samples");
     assert!(probed.cells == walker.cells, "{title}, cells");
     let rows = probed.recording.chunks(probes::MOST).take(block.ticks);
@@ -41,9 +48,9 @@ pub fn verify(case: &Case) {
     for ticks in [1, 0, 2, 5, 64, 700, 1024] {
         let controls: Vec<u32> = (0..16).map(|_| random.below(3)).collect();
         let block = case.block_from(from, ticks, &controls);
-        agree(&case.name, &mut implementations, &block);
+        let walked = agree(&case.name, &mut implementations, &block);
         for probed in &mut probed {
-            agree_probed(case, &implementations[12], probed, &block);
+            agree_probed(case, walked, &implementations[12], probed, &block);
         }
         from += ticks;
     }
