@@ -1,8 +1,8 @@
--- "A refusal is its number and a place: the line or node for 1 to 9, else -1."
+-- "A refusal is its number and a place: the line or node for 1 to 9, else -1"; E7: 16 "with the node as its place".
 use Prim.Native.Nat.{ℕ, suc, _-_, _%_, _^_}
 use lib.IntN.{ℤ, pos, negsuc}
 use Rattle.refusal.specs.declared.Refusal.{Refusal}
-use Rattle.refusal.specs.declared.Refusal.the-variants.{MalformedLine, WrongNodeNumber, WrongNodeCount, UnknownKind, WrongField, WrongChild, NoArityRule, TooWide, LooseNode, TooManyInstructions, TooManyCells, ShortBuffer, WrongCode, WrongBlock, WrongProbes}
+use Rattle.refusal.specs.declared.Refusal.the-variants.{MalformedLine, WrongNodeNumber, WrongNodeCount, UnknownKind, WrongField, WrongChild, NoArityRule, TooWide, LooseNode, TooManyInstructions, TooManyCells, ShortBuffer, WrongCode, WrongBlock, WrongProbes, EmptyFeedback}
 
 abbrev pub numberOf : Refusal → ℕ
 numberOf (MalformedLine p) = 1
@@ -20,6 +20,7 @@ numberOf ShortBuffer = 12
 numberOf WrongCode = 13
 numberOf WrongBlock = 14
 numberOf WrongProbes = 15
+numberOf (EmptyFeedback p) = 16
 
 abbrev pub noPlace : ℤ
 noPlace = negsuc 0
@@ -41,6 +42,7 @@ placeOf ShortBuffer = noPlace
 placeOf WrongCode = noPlace
 placeOf WrongBlock = noPlace
 placeOf WrongProbes = noPlace
+placeOf (EmptyFeedback p) = pos p
 
 -- the word that stands for a place: a line or node is one already
 abbrev pub placeWord : ℤ → ℕ

@@ -3,7 +3,7 @@ ghost use mathlib.Core.Path.{_≡_};
 ghost use Rattle.word.specs.Word.{low};
 ghost use Rattle.refusal.specs.Refusals.{numberOf, placeOf, placeWord};
 
-// The place of the first nine is a line of a column file or a node of a table.
+// The place of the first nine is a line of a column file or a node of a table, that of the last a node.
 pub enum Refusal {
     // 1: a line that is not 41 bytes, or a column that is no 32-bit number of the form
     MalformedLine(u32),
@@ -35,6 +35,8 @@ pub enum Refusal {
     WrongBlock,
     // 15: an odd count of probe numbers, more than 16 probes, or one that names no output of the table
     WrongProbes,
+    // 16: a recursion whose right side has neither inputs nor outputs
+    EmptyFeedback(u32),
 }
 
 // -1, for a refusal without a place.
@@ -60,6 +62,7 @@ pub fn number(refusal: Refusal) -> u32
         Refusal::WrongCode => 13,
         Refusal::WrongBlock => 14,
         Refusal::WrongProbes => 15,
+        Refusal::EmptyFeedback(_) => 16,
     }
 }
 
@@ -83,6 +86,7 @@ fn carried(refusal: Refusal) -> u32
         Refusal::WrongCode => NO_PLACE,
         Refusal::WrongBlock => NO_PLACE,
         Refusal::WrongProbes => NO_PLACE,
+        Refusal::EmptyFeedback(at) => at,
     }
 }
 
