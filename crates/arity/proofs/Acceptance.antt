@@ -1,7 +1,8 @@
--- A table of the stated form is accepted exactly where the published rules count inputs and outputs of each of its nodes, none above 32.
+-- A table of the stated form is accepted exactly where the published rules count inputs and outputs of each of its nodes, none above 32, and each
+-- recursion feeds something back.
 use Prim.Native.Nat.{ℕ, suc, _≤_, _<_}
 use mathlib.Core.Path.{_≡_, refl, sym, _∙_}
-use mathlib.Core.Logic.{inl, inr, _↔_}
+use mathlib.Core.Logic.{_↔_}
 use mathlib.Core.Bool.{Bool, true, false, false≢true}
 use mathlib.Core.List.{List}
 use native.Mathlib.Omega.{arith}
@@ -12,20 +13,20 @@ use Rattle.word.specs.Operation.{operands}
 use Rattle.arity.specs.Tree.{ins, outs}
 use Rattle.arity.specs.Tree.Tree.{join}
 use Rattle.arity.specs.Table.{kindAt, firstAt, secondAt, nodes, tree, compositionOf}
-use Rattle.arity.specs.Rules.{Arity}
 use Rattle.arity.specs.WellFormed.{Ruled}
-use Rattle.arity.specs.Check.{twoChildren, firstInRange, secondInRange, ruleFits, taken, refusalAt, loose, report, checked, IsAccepted}
+use Rattle.arity.specs.Check.{twoChildren, firstInRange, secondInRange, ruleFits, feedsBack, taken, refusalAt, loose, report, checked, IsAccepted}
 use Rattle.arity.specs.Formed.{Child, Children, Fields, Formed, Fitting}
 use Rattle.arity.specs.Acceptance.{Acceptance}
-use Rattle.arity.proofs.Exact.{ruled, arity}
+use Rattle.arity.proofs.Exact.{ruled}
 use Rattle.arity.proofs.Tests.{and-left, and-right, known-false}
-use Rattle.arity.proofs.ByKind.{Alone, alone-of, two-of, fits-of, rule-of, rule-other}
+use Rattle.arity.proofs.ByKind.{Alone, alone-of, two-of, rule-of, rule-other}
 use Rattle.arity.proofs.ByKind.Alone.{k1, k2, k3, k4, k5, k6}
+use Rattle.arity.proofs.Feedback.{feedback-other, feedback-of}
 use Rattle.arity.proofs.Taken.{taken-child, child-taken, of-children}
 use Rattle.arity.proofs.Trees.{View, view}
 use Rattle.arity.proofs.Trees.View.{alone, two, one}
 use Rattle.arity.proofs.Right.{rights, kids}
-use Rattle.arity.proofs.Once.{nodewise}
+use Rattle.arity.proofs.Fitting.{fitting}
 use Rattle.arity.proofs.Loose.{none-loose}
 use Rattle.arity.proofs.Walk.{Passed, has-passed, even, passes}
 
@@ -87,15 +88,27 @@ module _ (t : List ℕ) (f : Formed t) (w : Fitting t) where
       go : View t i → ruleFits t i ≡ true
       go (alone a e) = rule-other (kindAt t i) (tree t (firstAt t i)) (tree t (secondAt t i)) (λ x y. omega arith)
       go (two a b e) =
-          let u : Ruled (tree t i) = ruled (w i h .2) .0 in
+          let u : Ruled (tree t i) = ruled (w i h .0 .2) .0 in
           let v : Ruled (join i (compositionOf (kindAt t i)) (tree t (firstAt t i)) (tree t (secondAt t i))) = rw e at u in
           rule-of (kindAt t i) _ _ (two-of (kindAt t i) a b) (v .2)
       go (one a e) = rule-other (kindAt t i) (tree t (firstAt t i)) (tree t (secondAt t i)) (λ x y. omega arith)
 
+  feeds-back : (i : ℕ) → i < nodes t → feedsBack t i ≡ true
+  unfolding feedsBack
+  feeds-back i h = go (view t (nodes t) (f .children) i h)
+    where
+      go : View t i → feedsBack t i ≡ true
+      go (alone a e) = feedback-other (kindAt t i) (tree t (secondAt t i)) (λ k. omega arith)
+      go (two a b e) =
+          let lower = f .children i h .second a b .lower in
+          feedback-of (kindAt t i) (tree t (secondAt t i)) (w (secondAt t i) (omega arith) .0 .2)
+          (λ k. w i h .1 i (tree t (firstAt t i)) (tree t (secondAt t i)) (rw k at e))
+      go (one a e) = feedback-other (kindAt t i) (tree t (secondAt t i)) (λ k. omega arith)
+
   not-refused : (i : ℕ) → i < nodes t → refusalAt t i ≡ 0
   unfolding refusalAt
   not-refused i h =
-      let r = ruled (w i h .2) in
+      let r = ruled (w i h .0 .2) in
       rw (
         le-leb 1 (kindAt t i) (f .kinds i h .0),
         le-leb (kindAt t i) 12 (f .kinds i h .1),
@@ -103,8 +116,9 @@ module _ (t : List ℕ) (f : Formed t) (w : Fitting t) where
         second-in-range (kindAt t i) (firstAt t i) (secondAt t i) (f .fields i h),
         of-children t i (f .children i h),
         rule-fits i h,
-        le-leb (ins (tree t i)) 32 (rw (r .1) at (w i h .3)),
-        le-leb (outs (tree t i)) 32 (rw (r .2) at (w i h .4)),
+        feeds-back i h,
+        le-leb (ins (tree t i)) 32 (rw (r .1) at (w i h .0 .3)),
+        le-leb (outs (tree t i)) 32 (rw (r .2) at (w i h .0 .4)),
       )
 
   not-loose : (p : ℕ) → loose t p ≡ false
@@ -120,7 +134,7 @@ module _ (t : List ℕ) (f : Formed t) (w : Fitting t) where
       let q = f .whole in
       passes t (even t (λ e. omega arith) (omega arith)) (f .most) not-refused ∙ rw (none-loose t not-loose, le-ltb (nodes t) (nodes t) (omega arith))
 
--- an accepted table: it is of the form, and its nodes have arities
+-- an accepted table is of the form
 module _ (t : List ℕ) (x : Passed t) where
   kids-of : (i : ℕ) → i < nodes t → Children t i
   kids-of = kids t (nodes t) (x .right)
@@ -141,25 +155,9 @@ module _ (t : List ℕ) (x : Passed t) where
         attached = λ j h. attached j h (taken t (nodes t) j) refl;
       }
 
-  rules : (i : ℕ) → i < nodes t → Ruled (tree t i)
-  unfolding Ruled ruleFits
-  rules = nodewise t (nodes t) kids-of (λ i. Ruled (tree t i)) (λ i h kid. step i h kid (view t (nodes t) kids-of i h))
-    where
-      step : (i : ℕ) → i < nodes t → ((c : ℕ) → Child t i c → Ruled (tree t c)) → View t i → Ruled (tree t i)
-      step i h kid (alone a e) = rw e tt
-      step i h kid (two a b e) =
-          rw e (kid _ (inl (a, refl)), kid _ (inr (a, b, refl)), fits-of (kindAt t i) _ _ (two-of _ a b) (rights t (nodes t) (x .right) i h .fits))
-      step i h kid (one a e) = rw e (kid _ (inl (omega arith, refl)))
-
-  pub arities : (i : ℕ) → i < nodes t → Arity (tree t i) (ins (tree t i)) (outs (tree t i))
-  arities i h = arity (tree t i) (rules i h)
-
-  fitting : Fitting t
-  fitting i h = (ins (tree t i), outs (tree t i), arities i h, rights t (nodes t) (x .right) i h .inputs, rights t (nodes t) (x .right) i h .outputs)
-
 -- exactly the tables of the stated form are accepted whose nodes have arities by the published rules, none above 32
 accepted : (t : List ℕ) → IsAccepted t ↔ (Formed t × Fitting t)
-accepted t = (λ (ks, e). let x = has-passed t ks e .0 in (formed t x, fitting t x), λ (f, w). (_, complete t f w))
+accepted t = (λ (ks, e). let x = has-passed t ks e .0 in (formed t x, fitting t (nodes t) (x .right)), λ (f, w). (_, complete t f w))
 
 -- so a table of the form is accepted exactly where they count each of its nodes
 pub acceptance : Acceptance

@@ -6,22 +6,27 @@ use mathlib.Core.List.{List, [], _∷_, _++_}
 use native.Mathlib.Omega.{arith}
 use lib.Dec.{lit<, lit≤}
 use lib.ListN.{length}
+use borrow.Author.Tests.{le-leb}
 use Rattle.word.specs.Operation.{operands}
 use Rattle.word.specs.Tick.{zeros, Words}
 use Rattle.word.proofs.Each.{words-by}
 use Rattle.refusal.specs.Answer.{refusedAt}
 use Rattle.refusal.specs.Answer.Answer.{counts}
 use Rattle.arity.specs.Tree.{Tree, ins, outs, need, size}
+use Rattle.arity.specs.Tree.Tree.{join}
+use Rattle.arity.specs.Tree.Composition.{recursion}
 use Rattle.arity.specs.Table.{nodes, kindAt, firstAt, secondAt, tree, treeAt, circuit}
 use Rattle.arity.specs.Rules.{Arity}
 use Rattle.arity.specs.WellFormed.{Ruled, WellFormed}
 use Rattle.arity.specs.Nodes.{Complete, subtree, sumTo, cellsBefore}
 use Rattle.arity.specs.Lowest.{lowest}
-use Rattle.arity.specs.Check.{checked, refusalAt, childrenFree, taken, ruleFits, loose, firstLoose}
-use Rattle.arity.specs.Formed.{Children, Fields, Formed, Counted, Fitting}
+use Rattle.arity.specs.Check.{rule, checked, refusalAt, childrenFree, taken, ruleFits, feedsBack, loose, firstLoose}
+use Rattle.arity.specs.Formed.{Children, Fields, Formed, Counted, FeedsBack, Fitted, Fitting}
 use Rattle.arity.proofs.Exact.{exact}
+use Rattle.arity.proofs.Feedback.{leaf-feeds}
 use Rattle.arity.proofs.Loose.{first-loose}
 use Rattle.arity.proofs.RefusedLoose.{refused-loose}
+use Rattle.arity.proofs.RefusedFeedback.{refused-feedback}
 use Rattle.arity.proofs.Acceptance.{acceptance}
 use Rattle.arity.proofs.Promise.{promise}
 
@@ -62,13 +67,18 @@ longest-formed =
 
 longest-fits : Fitting longest
 unfolding tree treeAt
-longest-fits = only-node (λ i. Counted (tree longest i)) (2, 1, Arity.delay, lit≤ tt, lit≤ tt)
+longest-fits = only-node (λ i. Fitted (tree longest i)) ((2, 1, Arity.delay, lit≤ tt, lit≤ tt), leaf-feeds _ _)
 
 longest-accepted : (ks : List ℕ) × (checked longest ≡ counts ks)
 longest-accepted = acceptance longest longest-formed .1 longest-fits
 
 longest-counted : (ks : List ℕ) → checked longest ≡ counts ks → (a : ℕ) × (b : ℕ) × Arity (tree longest 0) a b × (a ≤ 32) × (b ≤ 32)
-longest-counted ks e = acceptance longest longest-formed .0 (ks, e) 0 (lit< tt)
+longest-counted ks e = acceptance longest longest-formed .0 (ks, e) 0 (lit< tt) .0
+
+-- a node of an accepted table is no recursion of a right side 0 → 0
+accepted-feeds : (t : List ℕ) → Formed t → (ks : List ℕ) → checked t ≡ counts ks → (i : ℕ) → i < nodes t → (x y : Tree) → tree t i ≡ join i recursion x y
+    → Arity y 0 0 → ⊥
+accepted-feeds t f ks e i h = acceptance t f .0 (ks, e) i h .1 i
 
 -- n + 1 cables side by side
 cables : ℕ → List ℕ
@@ -77,11 +87,11 @@ cables (suc n) = cables n ++ (5 ∷ 0 ∷ 0 ∷ 8 ∷ (2 * n) ∷ (2 * n + 1) �
 
 -- "32 inputs pass; 33 get 8."
 widest : checked (cables 31) ≡ counts (32 ∷ 32 ∷ 0 ∷ 0 ∷ [])
-unfolding cables checked lowest refusalAt childrenFree taken ruleFits tree treeAt ins outs need size sumTo
+unfolding cables checked lowest refusalAt childrenFree taken ruleFits feedsBack tree treeAt ins outs need size sumTo
 widest = refl
 
 wider : checked (cables 32) ≡ refusedAt 8 64
-unfolding cables checked lowest refusalAt childrenFree taken ruleFits tree treeAt ins outs need size sumTo
+unfolding cables checked lowest refusalAt childrenFree taken ruleFits feedsBack tree treeAt ins outs need size sumTo
 wider = refl
 
 -- 512 nodes are looked at, and the first gets 4; 513 get 3
@@ -98,7 +108,7 @@ abbrev pub fourDelays : List ℕ
 fourDelays = 4 ∷ 4095 ∷ 0 ∷ 4 ∷ 4095 ∷ 0 ∷ 8 ∷ 0 ∷ 1 ∷ 4 ∷ 4095 ∷ 0 ∷ 4 ∷ 4095 ∷ 0 ∷ 8 ∷ 3 ∷ 4 ∷ 8 ∷ 2 ∷ 5 ∷ []
 
 pub four-delays-accepted : checked fourDelays ≡ counts (8 ∷ 4 ∷ 4 ∷ 16384 ∷ [])
-unfolding checked lowest refusalAt childrenFree taken ruleFits tree treeAt ins outs need size sumTo
+unfolding checked lowest refusalAt childrenFree taken ruleFits feedsBack tree treeAt ins outs need size sumTo
 four-delays-accepted = refl
 
 pub four-delays-words : Words fourDelays
@@ -109,7 +119,7 @@ abbrev pub integrator : List ℕ
 integrator = 3 ∷ 1 ∷ 0 ∷ 5 ∷ 0 ∷ 0 ∷ 11 ∷ 0 ∷ 1 ∷ []
 
 pub integrator-accepted : checked integrator ≡ counts (1 ∷ 1 ∷ 3 ∷ 1 ∷ [])
-unfolding checked lowest refusalAt childrenFree taken ruleFits tree treeAt ins outs need size sumTo operands
+unfolding checked lowest refusalAt childrenFree taken ruleFits feedsBack tree treeAt ins outs need size sumTo operands
 integrator-accepted = refl
 
 pub integrator-words : Words integrator
@@ -120,7 +130,7 @@ abbrev pub shortDelay : List ℕ
 shortDelay = 4 ∷ 1 ∷ 0 ∷ []
 
 pub short-delay-accepted : checked shortDelay ≡ counts (2 ∷ 1 ∷ 1 ∷ 2 ∷ [])
-unfolding checked lowest refusalAt childrenFree taken ruleFits tree treeAt ins outs need size sumTo
+unfolding checked lowest refusalAt childrenFree taken ruleFits feedsBack tree treeAt ins outs need size sumTo
 short-delay-accepted = refl
 
 pub short-delay-words : Words shortDelay
@@ -130,7 +140,7 @@ abbrev pub ondemandCable : List ℕ
 ondemandCable = 5 ∷ 0 ∷ 0 ∷ 12 ∷ 0 ∷ 0 ∷ []
 
 pub ondemand-accepted : checked ondemandCable ≡ counts (2 ∷ 1 ∷ 3 ∷ 1 ∷ [])
-unfolding checked lowest refusalAt childrenFree taken ruleFits tree treeAt ins outs need size sumTo
+unfolding checked lowest refusalAt childrenFree taken ruleFits feedsBack tree treeAt ins outs need size sumTo
 ondemand-accepted = refl
 
 pub ondemand-words : Words ondemandCable
@@ -155,12 +165,16 @@ module _ (t : List ℕ) (n m : ℕ) (k : checked t ≡ counts (n ∷ m ∷ 2048 
   largest-node : (i : ℕ) → i < nodes t → Arity (tree t i) (ins (tree t i)) (outs (tree t i)) × (subtree (circuit t) i ≡ tree t i) × (need (tree t i) ≤ need (circuit t))
   largest-node i h = let p = promise k words .node i h in (p .arity, p .part, p .instructions)
 
+  -- the right side of a recursion without inputs has an output
+  largest-feedback : (i : ℕ) → i < nodes t → kindAt t i ≡ 11 → ins (tree t (secondAt t i)) ≡ 0 → 1 ≤ outs (tree t (secondAt t i))
+  largest-feedback i h e z = omega (arith, promise k words .node i h .feedback e)
+
 -- and with the largest word
 abbrev minusOne : List ℕ
 minusOne = 1 ∷ 4294967295 ∷ 0 ∷ []
 
 minus-one-accepted : checked minusOne ≡ counts (0 ∷ 1 ∷ 1 ∷ 0 ∷ [])
-unfolding checked lowest refusalAt childrenFree taken ruleFits tree treeAt ins outs need size sumTo
+unfolding checked lowest refusalAt childrenFree taken ruleFits feedsBack tree treeAt ins outs need size sumTo
 minus-one-accepted = refl
 
 largest-number : WellFormed (circuit minusOne)
@@ -175,3 +189,14 @@ before-first t q e = first-loose t .noLower q (omega (arith, e))
 
 refused-at-1 : (t : List ℕ) → checked t ≡ refusedAt 9 1 → (loose t 1 ≡ true) × (loose t 0 ≡ false)
 refused-at-1 t e = let (l, f) = refused-loose t 1 e in (l, f 0 (omega arith))
+
+-- a right side 0 → 0 fits every left side, so that no node gets 7 where it would get 16
+empty-fits : (a b : ℕ) → rule 11 a b 0 0 ≡ true
+empty-fits a b = rw (le-leb 0 b (omega arith), le-leb 0 a (omega arith))
+
+-- the place with 16 is the recursion, and the node just below it fits
+refused-at-4 : (t : List ℕ) → checked t ≡ refusedAt 16 4 → (x : Tree) × (y : Tree) × (tree t 4 ≡ join 4 recursion x y) × Arity y 0 0
+refused-at-4 t e = let f = refused-feedback t 4 e in (f .left, f .right, f .recursive, f .empty)
+
+below-4 : (t : List ℕ) → checked t ≡ refusedAt 16 4 → Counted (tree t 3) × FeedsBack (tree t 3)
+below-4 t e = refused-feedback t 4 e .first 3 (omega arith)

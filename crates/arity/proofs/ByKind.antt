@@ -8,6 +8,7 @@ use lib.Dec.{leb}
 use borrow.Author.Tests.{leb-true, ltb-true, eqb-true, le-leb, eq-eqb, ne-eqb}
 use Rattle.word.specs.Operation.{operands}
 use Rattle.arity.specs.Tree.{Tree, ins, outs}
+use Rattle.arity.specs.Tree.Composition.{recursion}
 use Rattle.arity.specs.Table.{primitiveOf, compositionOf}
 use Rattle.arity.specs.WellFormed.{Known, Fits}
 use Rattle.arity.specs.Check.{firstInRange, rule}
@@ -49,6 +50,13 @@ two-of k a b = go (ℕ-discrete k 7) (ℕ-discrete k 8) (ℕ-discrete k 9) (ℕ-
     go (no e) (no f) (yes g) z = rw g k9
     go (no e) (no f) (no g) (yes h) = rw h k10
     go (no e) (no f) (no g) (no h) = let w : k ≡ 11 = omega arith in rw w k11
+
+pub is-recursion : {k : ℕ} → Two k → compositionOf k ≡ recursion → k ≡ 11
+is-recursion k7 e = cc e
+is-recursion k8 e = cc e
+is-recursion k9 e = cc e
+is-recursion k10 e = cc e
+is-recursion k11 e = refl
 
 -- the check's rule of a composition is the published one
 abbrev pub ruleFor : ℕ → Tree → Tree → Type 0

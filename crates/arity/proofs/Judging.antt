@@ -1,10 +1,10 @@
 -- One node: the tests on the marks and the rows decide its refusal, and the rows give its counts.
-use Prim.Native.Nat.{ℕ, suc, _≤_, _<_}
+use Prim.Native.Nat.{ℕ, _≤_, _<_}
 use mathlib.Core.Path.{_≡_, refl, sym, ap, ap₂, _∙_}
 use mathlib.Core.Bool.{Bool, true, false, not, _&&_}
 use mathlib.Core.List.{List}
 use native.Mathlib.Omega.{arith}
-use native.Mathlib.Decide.{decLe, decLt, ℕ-discrete}
+use native.Mathlib.Decide.{decLe, decLt}
 use lib.Dec.{eqb, ltb}
 use borrow.Author.Tests.{eqb-true, leb-true, not-true, not-false, le-leb, lt-leb, le-ltb}
 use Rattle.word.specs.Choice.{pick, bit}
@@ -15,30 +15,32 @@ use Rattle.arity.specs.Tree.{Tree, Primitive, ins, outs}
 use Rattle.arity.specs.Tree.Tree.{leaf}
 use Rattle.arity.specs.Tree.Primitive.{number, control, operation, delay, cable, cut}
 use Rattle.arity.specs.Table.{kindAt, firstAt, secondAt, nodes, tree, primitiveOf}
-use Rattle.arity.specs.Check.{knownKind, firstInRange, secondInRange, taken, free, childrenFree, ruleFits, narrow, refusalAt, firstCell}
+use Rattle.arity.specs.Check.{knownKind, firstInRange, secondInRange, taken, free, childrenFree, ruleFits, feedsBack, narrow, refusalAt, firstCell}
 use Rattle.arity.specs.Formed.{Children}
 use Rattle.arity.specs.Survey.{rowOf, rowAt}
-use Rattle.arity.specs.Steps.{countsOf, ruleOf, over, Joins, Modest, Joinable, State, freeIn, childrenIn, Branching, Refuses}
+use Rattle.arity.specs.Steps.{countsOf, ruleOf, feedbackOf, over, Joins, Modest, Joinable, State, freeIn, childrenIn, Branching, Refuses}
 use Rattle.arity.specs.declared.counts.Counts.{Counts}
 use Rattle.arity.specs.declared.rows.Row.{Row}
 use Rattle.arity.proofs.ByKind.{rule-other}
+use Rattle.arity.proofs.Feedback.{feedback-other}
 use Rattle.arity.proofs.Taken.{children-of}
-use Rattle.arity.proofs.Trees.{View, view}
+use Rattle.arity.proofs.Trees.{View}
 use Rattle.arity.proofs.Trees.View.{alone, two, one}
-use Rattle.arity.proofs.Right.{rights, kids}
+use Rattle.arity.proofs.Right.{rights, view-at}
 use Rattle.arity.proofs.Bounds.{need-most}
 use Rattle.arity.proofs.Joint.{leaf-any}
 
 -- the rows downwards: the tests decide the refusal
-refusal : (t : List ℕ) (i : ℕ) (a b c d e : Bool)
+refusal : (t : List ℕ) (i : ℕ) (a b c d f e : Bool)
     → knownKind (kindAt t i) ≡ a
     → (firstInRange (kindAt t i) (firstAt t i) && secondInRange (kindAt t i) (secondAt t i)) ≡ b
     → childrenFree t i ≡ c
     → ruleFits t i ≡ d
+    → feedsBack t i ≡ f
     → narrow (tree t i) ≡ e
-    → refusalAt t i ≡ pick (not a) 4 (pick (not b) 5 (pick (not c) 6 (pick (not d) 7 (pick (not e) 8 0))))
+    → refusalAt t i ≡ pick (not a) 4 (pick (not b) 5 (pick (not c) 6 (pick (not d) 7 (pick (not f) 16 (pick (not e) 8 0)))))
 unfolding refusalAt
-refusal t i a b c d e p q r s u = rw (p, q, r, s, u)
+refusal t i a b c d f e p q r s v u = rw (p, q, r, s, v, u)
 
 refuses : (t : List ℕ) (i r : ℕ) → refusalAt t i ≡ r → (r ≡ 0 → ⊥) → Refuses t i (refusedAt r i)
 refuses t i r e n = (ap (λ (x : ℕ). refusedAt x i) (sym e), λ z. n (sym e ∙ z))
@@ -81,17 +83,6 @@ children-law t s m i w h k = go (decLe (kindAt t i) 11)
         (ap₂ (λ (x y : Bool). not (eqb (firstAt t i) (secondAt t i)) && (x && y)) a b ∙ turn (free t i (firstAt t i)) (free t i (secondAt t i)) (not (eqb (firstAt t i) (secondAt t i))))
     go (no l) = rw (lt-leb (kindAt t i) 6 k, lt-leb (kindAt t i) 11 (omega arith)) a
 
--- the children of all nodes up to i
-kids-to : (t : List ℕ) (i : ℕ) → ((j : ℕ) → j < i → refusalAt t j ≡ 0) → Children t i → (j : ℕ) → j ≤ i → Children t j
-kids-to t i w c j h = go (ℕ-discrete j i)
-  where
-    go : Dec (j ≡ i) → Children t j
-    go (yes e) = rw e c
-    go (no e) = kids t i w j (omega arith)
-
-view-at : (t : List ℕ) (i : ℕ) → ((j : ℕ) → j < i → refusalAt t j ≡ 0) → Children t i → View t i
-view-at t i w c = view t (suc i) (λ j h. kids-to t i w c j (omega arith)) i (omega arith)
-
 -- few inputs and outputs, or not
 narrow-by : (x : Tree) → ins x ≤ 32 → outs x ≤ 32 → narrow x ≡ true
 narrow-by x a b = rw (le-leb (ins x) 32 a, le-leb (outs x) 32 b)
@@ -122,7 +113,7 @@ module _ (t s m : List ℕ) (i : ℕ) (w : State t s m i) (u : Branching t i) wh
   child-refused : childrenIn (kindAt t i) m i (firstAt t i) (secondAt t i) ≡ false → Refuses t i (refusedAt 6 i)
   child-refused e =
       refuses t i 6
-      (refusal t i true true false (ruleFits t i) (narrow (tree t i)) known fields (sym (children-law t s m i w inside (u .least)) ∙ e) refl refl) (λ z. omega arith)
+      (refusal t i true true false _ _ _ known fields (sym (children-law t s m i w inside (u .least)) ∙ e) refl refl refl) (λ z. omega arith)
 
   module _ (e : childrenIn (kindAt t i) m i (firstAt t i) (secondAt t i) ≡ true) where
     all-free : childrenFree t i ≡ true
@@ -165,7 +156,7 @@ module _ (t s m : List ℕ) (i : ℕ) (w : State t s m i) (u : Branching t i) wh
 
       rule-refused : ruleOf (kindAt t i) l r ≡ false → Refuses t i (refusedAt 7 i)
       rule-refused f =
-          refuses t i 7 (refusal t i true true true false (narrow (tree t i)) known fields all-free (sym rule-law ∙ f) refl) (λ z. omega arith)
+          refuses t i 7 (refusal t i true true true false _ _ known fields all-free (sym rule-law ∙ f) refl refl) (λ z. omega arith)
 
       joinable : ruleOf (kindAt t i) l r ≡ true → Joinable (kindAt t i) l r
       joinable f =
@@ -185,13 +176,22 @@ module _ (t s m : List ℕ) (i : ℕ) (w : State t s m i) (u : Branching t i) wh
           go (two a b e) = rw (le-leb (kindAt t i) 11 b) (sym e)
           go (one a e) = rw (lt-leb (kindAt t i) 11 a) (sym e)
 
-      width-refused : ruleOf (kindAt t i) l r ≡ true → narrow (tree t i) ≡ false → Refuses t i (refusedAt 8 i)
-      width-refused f g = refuses t i 8 (refusal t i true true true true false known fields all-free (sym rule-law ∙ f) g) (λ z. omega arith)
+      feedback-law : feedbackOf (kindAt t i) r ≡ feedsBack t i
+      unfolding feedsBack
+      feedback-law = rw er
 
-      accepted : ruleOf (kindAt t i) l r ≡ true → narrow (tree t i) ≡ true → refusalAt t i ≡ 0
-      accepted f g = refusal t i true true true true true known fields all-free (sym rule-law ∙ f) g
+      feedback-refused : ruleOf (kindAt t i) l r ≡ true → feedbackOf (kindAt t i) r ≡ false → Refuses t i (refusedAt 16 i)
+      feedback-refused f g =
+          refuses t i 16 (refusal t i true true true true false _ known fields all-free (sym rule-law ∙ f) (sym feedback-law ∙ g) refl) (λ z. omega arith)
 
--- the same, as the code has read the node: x says whether its children are free, y whether its rule fits
+      width-refused : ruleOf (kindAt t i) l r ≡ true → feedbackOf (kindAt t i) r ≡ true → narrow (tree t i) ≡ false → Refuses t i (refusedAt 8 i)
+      width-refused f g h =
+          refuses t i 8 (refusal t i true true true true true false known fields all-free (sym rule-law ∙ f) (sym feedback-law ∙ g) h) (λ z. omega arith)
+
+      accepted : ruleOf (kindAt t i) l r ≡ true → feedbackOf (kindAt t i) r ≡ true → narrow (tree t i) ≡ true → refusalAt t i ≡ 0
+      accepted f g h = refusal t i true true true true true true known fields all-free (sym rule-law ∙ f) (sym feedback-law ∙ g) h
+
+-- the same, as the code has read the node: x says whether its children are free, y whether its rule fits, o whether it feeds back
 module _ {t s m : List ℕ} {i k a b : ℕ} (w : State t s m i) (u : Branching t i) (v : Read t i k a b) {x : Bool} (ex : x ≡ childrenIn k m i a b) where
   free-at : (z : Bool) → x ≡ z → childrenIn (kindAt t i) m i (firstAt t i) (secondAt t i) ≡ z
   free-at z e = rw (v .kind, v .first, v .second) at (sym ex ∙ e)
@@ -226,20 +226,30 @@ module _ {t s m : List ℕ} {i k a b : ℕ} (w : State t s m i) (u : Branching t
         pub seen-joinable : Joinable k l r
         seen-joinable = rw (v .kind) (joinable t s m i w u all l r row-l row-r fits)
 
-        module _ {n : Counts} (en : Joins k l r n) where
-          counts-at : n ≡ countsOf (tree t i)
-          counts-at = counted t s m i w u all l r row-l row-r n (rw (v .kind) at en)
+        module _ {o : Bool} (eo : o ≡ feedbackOf k r) where
+          feedback-at : (z : Bool) → o ≡ z → feedbackOf (kindAt t i) r ≡ z
+          feedback-at z g = rw (v .kind) at (sym eo ∙ g)
 
-          pub seen-ins : 32 < n .inputs → Refuses t i (refusedAt 8 i)
-          seen-ins h = width-refused t s m i w u all l r row-l row-r fits (wide-ins (tree t i) (rw counts-at at h))
+          pub seen-feedback : not o ≡ true → Refuses t i (refusedAt 16 i)
+          seen-feedback g = feedback-refused t s m i w u all l r row-l row-r fits (feedback-at false (not-true o g))
 
-          module _ (h : n .inputs ≤ 32) where
-            pub seen-outs : 32 < n .outputs → Refuses t i (refusedAt 8 i)
-            seen-outs g = width-refused t s m i w u all l r row-l row-r fits (wide-outs (tree t i) (rw counts-at at h) (rw counts-at at g))
+          module _ (g : not o ≡ false) {n : Counts} (en : Joins k l r n) where
+            feeds : feedbackOf (kindAt t i) r ≡ true
+            feeds = feedback-at true (not-false o g)
 
-            pub seen-right : n .outputs ≤ 32 → (refusalAt t i ≡ 0) × (n ≡ countsOf (tree t i))
-            seen-right g =
-                (accepted t s m i w u all l r row-l row-r fits (narrow-by (tree t i) (rw counts-at at h) (rw counts-at at g)), counts-at)
+            counts-at : n ≡ countsOf (tree t i)
+            counts-at = counted t s m i w u all l r row-l row-r n (rw (v .kind) at en)
+
+            pub seen-ins : 32 < n .inputs → Refuses t i (refusedAt 8 i)
+            seen-ins h = width-refused t s m i w u all l r row-l row-r fits feeds (wide-ins (tree t i) (rw counts-at at h))
+
+            module _ (h : n .inputs ≤ 32) where
+              pub seen-outs : 32 < n .outputs → Refuses t i (refusedAt 8 i)
+              seen-outs j = width-refused t s m i w u all l r row-l row-r fits feeds (wide-outs (tree t i) (rw counts-at at h) (rw counts-at at j))
+
+              pub seen-right : n .outputs ≤ 32 → (refusalAt t i ≡ 0) × (n ≡ countsOf (tree t i))
+              seen-right j =
+                  (accepted t s m i w u all l r row-l row-r fits feeds (narrow-by (tree t i) (rw counts-at at h) (rw counts-at at j)), counts-at)
 
 -- a node without children
 no-children : (t : List ℕ) (i : ℕ) → kindAt t i ≤ 6 → childrenFree t i ≡ true
@@ -249,6 +259,10 @@ no-children t i h = rw (le-leb (kindAt t i) 6 h)
 no-rule : (t : List ℕ) (i : ℕ) → kindAt t i ≤ 6 → ruleFits t i ≡ true
 unfolding ruleFits
 no-rule t i h = rule-other (kindAt t i) (tree t (firstAt t i)) (tree t (secondAt t i)) (λ l m. omega arith)
+
+no-feedback : (t : List ℕ) (i : ℕ) → kindAt t i ≤ 6 → feedsBack t i ≡ true
+unfolding feedsBack
+no-feedback t i h = feedback-other (kindAt t i) (tree t (secondAt t i)) (λ e. omega arith)
 
 leaf-narrow : (i : ℕ) (p : Primitive) → narrow (leaf i p) ≡ true
 unfolding ins outs
@@ -262,7 +276,7 @@ leaf-narrow i cut = refl
 -- refusals 4 and 5, and a node that passes without children
 module _ {t : List ℕ} {i k a b : ℕ} (v : Read t i k a b) where
   unknown : knownKind (kindAt t i) ≡ false → Refuses t i (refusedAt 4 i)
-  unknown e = refuses t i 4 (refusal t i false _ _ _ _ e refl refl refl refl) (λ z. omega arith)
+  unknown e = refuses t i 4 (refusal t i false _ _ _ _ _ e refl refl refl refl refl) (λ z. omega arith)
 
   pub kind-low : k < 1 → Refuses t i (refusedAt 4 i)
   kind-low h = unknown (rw (lt-leb 1 (kindAt t i) (omega (arith, v .kind))))
@@ -279,7 +293,7 @@ module _ {t : List ℕ} {i k a b : ℕ} (v : Read t i k a b) where
     first-at z e = rw (v .kind, v .first) at (sym ex ∙ e)
 
     wrong : (firstInRange (kindAt t i) (firstAt t i) && secondInRange (kindAt t i) (secondAt t i)) ≡ false → Refuses t i (refusedAt 5 i)
-    wrong e = refuses t i 5 (refusal t i true false _ _ _ kind-known e refl refl refl) (λ z. omega arith)
+    wrong e = refuses t i 5 (refusal t i true false _ _ _ _ kind-known e refl refl refl refl) (λ z. omega arith)
 
     pub first-wrong : not x ≡ true → Refuses t i (refusedAt 5 i)
     first-wrong e = wrong (rw (first-at false (not-true x e)))
@@ -316,7 +330,7 @@ module _ {t : List ℕ} {i k a b : ℕ} (v : Read t i k a b) where
               go (two c d z) = absurd (omega arith)
               go (one c z) = absurd (omega arith)
               go (alone c z) = (
-                refusal t i true true true true true kind-known (rw (first-right, second-right)) (no-children t i h) (no-rule t i h)
+                refusal t i true true true true true true kind-known (rw (first-right, second-right)) (no-children t i h) (no-rule t i h) (no-feedback t i h)
                     (ap narrow z ∙ leaf-narrow i (primitiveOf (kindAt t i) (firstAt t i))),
                 q ∙ rw (v .kind, v .first) (leaf-any i (primitiveOf (kindAt t i) (firstAt t i))) ∙ ap countsOf (sym z),
               )

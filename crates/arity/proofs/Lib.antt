@@ -4,16 +4,19 @@ pub mod Times
 pub mod Exact
 mod Tests
 mod ByKind
+mod Feedback
 mod Taken
 mod Trees
 mod Right
 mod Once
+mod Fitting
 mod Parts
 mod Bounds
 mod Lowest
 pub mod Loose
 mod Walk
 pub mod RefusedLoose
+pub mod RefusedFeedback
 pub mod Acceptance
 pub mod Promise
 mod Joint

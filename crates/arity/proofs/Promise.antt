@@ -14,13 +14,14 @@ use Rattle.arity.specs.Table.{kindAt, firstAt, secondAt, nodes, tree, ci
 use Rattle.arity.specs.Rules.{Arity}
 use Rattle.arity.specs.WellFormed.{Fits, WellFormed}
 use Rattle.arity.specs.Nodes.{Numbered, Complete, cellsBefore}
-use Rattle.arity.specs.Check.{ruleFits, report, cellsOf, firstCell}
+use Rattle.arity.specs.Check.{ruleFits, feedsBack, report, cellsOf, firstCell}
 use Rattle.arity.specs.Formed.{Child, Children}
 use Rattle.arity.specs.Survey.{rowOf, rowAt, putRow, filled}
 use Rattle.arity.specs.Promise.{Node, Promised, Recounted, Rows}
 use Rattle.arity.specs.declared.rows.Row.{Row}
 use Rattle.arity.proofs.Sizes.{cells-before, cells-after-node}
 use Rattle.arity.proofs.ByKind.{alone-of, two-of, fits-of, known-of}
+use Rattle.arity.proofs.Feedback.{some-feedback}
 use Rattle.arity.proofs.Trees.{View, view, as-leaf, as-join, as-ondemand}
 use Rattle.arity.proofs.Trees.View.{alone, two, one}
 use Rattle.arity.proofs.Right.{Right, rights, kids}
@@ -28,7 +29,8 @@ use Rattle.arity.proofs.Once.{nodewise, below, distinct, sized, everywh
 use Rattle.arity.proofs.Parts.{part, part-need}
 use Rattle.arity.proofs.Bounds.{need-most, cells-most}
 use Rattle.arity.proofs.Walk.{Passed, has-passed}
-use Rattle.arity.proofs.Acceptance.{formed, arities}
+use Rattle.arity.proofs.Acceptance.{formed}
+use Rattle.arity.proofs.Fitting.{arities}
 use Rattle.arity.proofs.Next.{put-length, row-other, row-same, one-more}
 use Rattle.arity.proofs.End.{surveyed-all}
 
@@ -82,6 +84,7 @@ module _ (t : List ℕ) (x : Passed t) where
         go (no m) = let z = formed t x .fields i h .unused (λ u v. omega arith) in omega (arith, kids-of i h .first l .lower)
 
     node : Node t i
+    unfolding feedsBack
     node =
         let f = formed t x .fields i h in
         let q = part t (nodes t) kids-of (nodes t - 1) last i (whole-tree .every i h) in
@@ -98,11 +101,12 @@ module _ (t : List ℕ) (x : Passed t) where
           isJoin = as-join (view t (nodes t) kids-of i h);
           isOndemand = as-ondemand (view t (nodes t) kids-of i h);
           wellFormed = wellformed words i h;
-          arity = arities t x i h;
+          arity = arities t (nodes t) (x .right) i h;
           sequence = fits-kind i h 7 (omega arith) (omega arith);
           split = fits-kind i h 9 (omega arith) (omega arith);
           merge = fits-kind i h 10 (omega arith) (omega arith);
           recursion = fits-kind i h 11 (omega arith) (omega arith);
+          feedback = λ e. some-feedback (kindAt t i) (tree t (secondAt t i)) e (rights-of i h .feeds);
           inputs = rights-of i h .inputs;
           outputs = rights-of i h .outputs;
           instructions = rw q at (part-need (circuit t) (whole-tree .distinct) i (whole-tree .every i h));
@@ -121,7 +125,7 @@ promise {t} {a} {b} {c} {d} e words =
       whole = x .whole;
       least = x .least;
       most = x .most;
-      arity = subst₂ (λ (m n : ℕ). Arity (circuit t) m n) (sym inputs) (sym outputs) (arities t x (nodes t - 1) (last t x));
+      arity = subst₂ (λ (m n : ℕ). Arity (circuit t) m n) (sym inputs) (sym outputs) (arities t (nodes t) (x .right) (nodes t - 1) (last t x));
       counted = (inputs, outputs, instructions);
       celled = total;
       modest = (omega (arith, instructions, x .most, need-most t (nodes t) (x .right) (nodes t - 1) (last t x)), omega (arith, cells, x .most, cells-most t (nodes t) (x .right)));

@@ -33,9 +33,9 @@ known-false true f = absurd (f refl)
 known-false false f = refl
 
 -- a test that failed would have left its number
-pub passed : (b : Bool) (r x : ℕ) → pick (not b) r x ≡ 0 → (r ≡ 0 → ⊥) → (b ≡ true) × (x ≡ 0)
-passed true r x e n = (refl, e)
-passed false r x e n = absurd (n e)
+pub passed : (b : Bool) (r x n : ℕ) → pick (not b) r x ≡ n → (r ≡ n → ⊥) → (b ≡ true) × (x ≡ n)
+passed true r x n e f = (refl, e)
+passed false r x n e f = absurd (f e)
 
 pub bit-zero : (b : Bool) → eqb (bit b) 0 ≡ not b
 bit-zero true = refl

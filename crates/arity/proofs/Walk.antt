@@ -23,6 +23,10 @@ passed-to t i h f g =
     lowest-is (isRefused t) (nodes t) 0 i (omega arith) (omega arith) (λ j a b. le-ltb 0 (refusalAt t j) (omega (arith, f j b)))
     (λ l. lt-ltb 0 (refusalAt t i) (omega (arith, g (omega arith))))
 
+-- no node before the first refused one is
+pub first-passed : (t : List ℕ) (i : ℕ) → i < firstRefused t → refusalAt t i ≡ 0
+first-passed t i h = omega (arith, ltb-false 0 (refusalAt t i) (lowest-least (isRefused t) (nodes t) 0 i (omega arith) h))
+
 -- refusal 3
 pub even : (t : List ℕ) → (length t ≡ 0 → ⊥) → length t % 3 ≡ 0 → uneven t ≡ false
 even t some thirds = rw (ne-eqb (length t) 0 some, eq-eqb (length t % 3) 0 thirds)
@@ -86,7 +90,7 @@ verdict t = start (ℕ-discrete (length t) 0) (ℕ-discrete (length t % 3) 0) (d
           whole = omega arith;
           least = omega arith;
           most = x;
-          right = λ i h. omega (arith, ltb-false 0 (refusalAt t i) (lowest-least (isRefused t) (nodes t) 0 i (omega arith) (omega arith)));
+          right = λ i h. first-passed t i (omega arith);
           tight = tight t (omega arith);
         })
         (walked t (even t z y) x ∙ rw (le-ltb (firstRefused t) (nodes t) (omega arith), le-ltb (firstLoose t) (nodes t) (omega arith)))

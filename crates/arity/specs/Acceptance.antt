@@ -1,5 +1,5 @@
 -- Demand 2 of tables: "A table of the stated form is accepted if and only if the published arity rules for Faust circuits count the inputs and outputs
--- of each of its nodes, none above 32."
+-- of each of its nodes, none above 32", and, by E7, no recursion in it has a right side with "neither inputs nor outputs".
 use Prim.Native.Nat.{ℕ}
 use mathlib.Core.Path.{_≡_}
 use mathlib.Core.Logic.{_↔_}

@@ -75,6 +75,15 @@ ruleFits table i =
     let r = tree table (secondAt table i) in
     rule (kindAt table i) (ins l) (outs l) (ins r) (outs r)
 
+-- 16: "a recursion whose right side has neither inputs nor outputs", for a right side c→d; no other kind gets it
+abbrev pub feedback : (kind c d : ℕ) → Bool
+feedback kind c d = not (eqb kind 11 && (eqb c 0 && eqb d 0))
+
+unfoldable pub feedsBack : List ℕ → ℕ → Bool
+feedsBack table i =
+    let r = tree table (secondAt table i) in
+    feedback (kindAt table i) (ins r) (outs r)
+
 -- 8: "inputs or outputs above 32"
 abbrev pub narrow : Tree → Bool
 narrow x = leb (ins x) widest && leb (outs x) widest
@@ -86,7 +95,8 @@ refusalAt table i =
     (pick (not (firstInRange (kindAt table i) (firstAt table i) && secondInRange (kindAt table i) (secondAt table i))) 5
     (pick (not (childrenFree table i)) 6
     (pick (not (ruleFits table i)) 7
-    (pick (not (narrow (tree table i))) 8 0))))
+    (pick (not (feedsBack table i)) 16
+    (pick (not (narrow (tree table i))) 8 0)))))
 
 -- "the table, node by node": the first node that is refused; the count of nodes where none is
 abbrev pub isRefused : List ℕ → ℕ → Bool

@@ -7,6 +7,8 @@ use lib.ListN.{length}
 use Rattle.word.specs.Limits.{mostNodes, widest, lastSlot, longestDelay}
 use Rattle.word.specs.Operation.{operands}
 use Rattle.arity.specs.Tree.{Tree}
+use Rattle.arity.specs.Tree.Tree.{join}
+use Rattle.arity.specs.Tree.Composition.{recursion}
 use Rattle.arity.specs.Table.{kindAt, firstAt, secondAt, nodes, tree}
 use Rattle.arity.specs.Rules.{Arity}
 
@@ -47,6 +49,13 @@ pub record Formed (table : List ℕ) : Type 0 where
 abbrev pub Counted : Tree → Type 0
 Counted x = (a : ℕ) × (b : ℕ) × Arity x a b × (a ≤ widest) × (b ≤ widest)
 
--- and those of each node of a table
+-- a tree is no recursion whose right side has "neither inputs nor outputs", by the same rules
+abbrev pub FeedsBack : Tree → Type 0
+FeedsBack t = (i : ℕ) (x y : Tree) → t ≡ join i recursion x y → Arity y 0 0 → ⊥
+
+-- both, and both of each node of a table
+abbrev pub Fitted : Tree → Type 0
+Fitted x = Counted x × FeedsBack x
+
 abbrev pub Fitting : List ℕ → Type 0
-Fitting table = (i : ℕ) → i < nodes table → Counted (tree table i)
+Fitting table = (i : ℕ) → i < nodes table → Fitted (tree table i)

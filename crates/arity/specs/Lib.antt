@@ -10,4 +10,5 @@ pub mod Survey
 pub mod Steps
 pub mod Formed
 pub mod Acceptance
+pub mod Feedback
 pub mod Promise

@@ -48,6 +48,7 @@ pub record Node (table : List ℕ) (i : ℕ) : Type 0 where
   pub merge : kindAt table i ≡ 10 → Times (ins (tree table (secondAt table i))) (outs (tree table (firstAt table i)))
   pub recursion : kindAt table i ≡ 11
       → (ins (tree table (secondAt table i)) ≤ outs (tree table (firstAt table i))) × (outs (tree table (secondAt table i)) ≤ ins (tree table (firstAt table i)))
+  pub feedback : kindAt table i ≡ 11 → 0 < ins (tree table (secondAt table i)) + outs (tree table (secondAt table i))
   pub inputs : ins (tree table i) ≤ widest
   pub outputs : outs (tree table i) ≤ widest
   pub instructions : need (tree table i) ≤ need (circuit table)

@@ -11,7 +11,7 @@ use Rattle.refusal.specs.Answer.{Answer, refusalOf, refusedAt}
 use Rattle.arity.specs.Tree.{Tree, ins, outs, size, need}
 use Rattle.arity.specs.Tree.Tree.{join, ondemand}
 use Rattle.arity.specs.Table.{kindAt, firstAt, secondAt, nodes, tree, compositionOf}
-use Rattle.arity.specs.Check.{firstInRange, secondInRange, taken, rule, refusalAt, firstCell}
+use Rattle.arity.specs.Check.{firstInRange, secondInRange, taken, rule, feedback, refusalAt, firstCell}
 use Rattle.arity.specs.Survey.{shapeNumbers, rowFor, rowOf, rowAt, putRow}
 use Rattle.arity.specs.declared.counts.Counts.{Counts}
 use Rattle.arity.specs.declared.rows.Row.{Row}
@@ -27,6 +27,10 @@ countsOf x = record { inputs = ins x; outputs = outs x; instructions = need x; c
 -- the rule of a kind, from the rows of the left and the right side
 abbrev pub ruleOf : ℕ → Row → Row → Bool
 ruleOf kind l r = rule kind (l .inputs) (l .outputs) (r .inputs) (r .outputs)
+
+-- refusal 16 of a kind, from the row of the right side
+abbrev pub feedbackOf : ℕ → Row → Bool
+feedbackOf kind r = feedback kind (r .inputs) (r .outputs)
 
 -- node i of a kind from 7 to 12 with these sides; an ondemand has no right
 abbrev pub over : (kind i : ℕ) → Tree → Tree → Tree

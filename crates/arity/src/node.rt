@@ -1,4 +1,4 @@
-// One node of the check: the refusals 4 to 8, the rows downwards, or its counts.
+// One node of the check: the refusals 4 to 7, 16 and 8, the rows downwards, or its counts.
 use super::children::children_free;
 use super::children::mark;
 use super::counts::Counts;
@@ -12,6 +12,7 @@ use super::fields::second_of;
 use super::rows::Row;
 use super::rows::put_row;
 use super::rows::row_at;
+use super::rules::feeds_back;
 use super::rules::rule_fits;
 use crate::rows::SHAPE;
 use refusal::Refusal;
@@ -36,7 +37,7 @@ pub enum Stepped {
     Stop(Refusal),
 }
 
-// Refusals 6 to 8 of a node with children, whose kind and fields are right.
+// Refusals 6, 7, 16 and 8 of a node with children, whose kind and fields are right.
 fn judge_children(table: &[u32], shape: &[u32; SHAPE], marks: &[u32; NODES], node: usize) -> Judged
     requires { ⌜ State (now table) (now shape) (now marks) node ⌝ }
     requires { ⌜ Branching (now table) node ⌝ }
@@ -53,6 +54,9 @@ fn judge_children(table: &[u32], shape: &[u32; SHAPE], marks: &[u32; NODES], nod
     let r = row_at(shape, right);
     if !rule_fits(kind, l, r) {
         return Judged::Wrong(Refusal::NoArityRule(place));
+    }
+    if !feeds_back(kind, r) {
+        return Judged::Wrong(Refusal::EmptyFeedback(place));
     }
     let n = joint_counts(kind, l, r);
     if WIDEST < n.inputs {

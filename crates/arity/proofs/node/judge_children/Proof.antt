@@ -1,7 +1,7 @@
 -- Each return is a law of the tests on the marks and rows.
 use borrow.Author.Needs.{needs}
 use mathlib.Core.Path.{_∙_}
-use Rattle.arity.proofs.Judging.{Read, seen-child, seen-lower, seen-rule, seen-joinable, seen-ins, seen-outs, seen-right}
+use Rattle.arity.proofs.Judging.{Read, seen-child, seen-lower, seen-rule, seen-joinable, seen-feedback, seen-ins, seen-outs, seen-right}
 use Rattle.arity.proofs.node.judge_children.Statement.{statement}
 use Rattle.arity.proofs.node.judge_children.Tie as tie
 
@@ -47,25 +47,33 @@ returns-2 c =
     let z = c .before .before .before .before .before .before .before .before .before .before .before .before .pre in
     seen-rule (z .0) (z .1) (read (c .before .before .before .before .before)) (c .before .before .before .before .before .children-free .ensures) (c .before .before .before .before .if1 .left) (c .before .before .before .row-at .ensures) (c .before .before .row-at2 .ensures) (c .before .rule-fits .ensures) (c .if2 .taken)
 
-joint-counts-requires : tie.Need-joint-counts-requires
-joint-counts-requires c κs =
-    let z = c .before .before .before .before .before .before .before .before .before .before .before .before .pre in
-    seen-joinable (z .0) (z .1) (read (c .before .before .before .before .before)) (c .before .before .before .before .before .children-free .ensures) (c .before .before .before .before .if1 .left) (c .before .before .before .row-at .ensures) (c .before .before .row-at2 .ensures) (c .before .rule-fits .ensures) (c .if2 .left)
+feeds-back-requires : tie.Need-feeds-back-requires
+feeds-back-requires c κs = search needs
 
 returns-3 : tie.Need-returns-3
 returns-3 c =
-    let z = c .before .before .before .before .before .before .before .before .before .before .before .before .before .before .before .pre in
-    seen-ins (z .0) (z .1) (read (c .before .before .before .before .before .before .before .before)) (c .before .before .before .before .before .before .before .before .children-free .ensures) (c .before .before .before .before .before .before .before .if1 .left) (c .before .before .before .before .before .before .row-at .ensures) (c .before .before .before .before .before .row-at2 .ensures) (c .before .before .before .before .rule-fits .ensures) (c .before .before .before .if2 .left) (c .before .before .joint-counts .ensures) (c .if3 .taken)
+    let z = c .before .before .before .before .before .before .before .before .before .before .before .before .before .before .pre in
+    seen-feedback (z .0) (z .1) (read (c .before .before .before .before .before .before .before)) (c .before .before .before .before .before .before .before .children-free .ensures) (c .before .before .before .before .before .before .if1 .left) (c .before .before .before .before .before .row-at .ensures) (c .before .before .before .before .row-at2 .ensures) (c .before .before .before .rule-fits .ensures) (c .before .before .if2 .left) (c .before .feeds-back .ensures) (c .if3 .taken)
+
+joint-counts-requires : tie.Need-joint-counts-requires
+joint-counts-requires c κs =
+    let z = c .before .before .before .before .before .before .before .before .before .before .before .before .before .before .pre in
+    seen-joinable (z .0) (z .1) (read (c .before .before .before .before .before .before .before)) (c .before .before .before .before .before .before .before .children-free .ensures) (c .before .before .before .before .before .before .if1 .left) (c .before .before .before .before .before .row-at .ensures) (c .before .before .before .before .row-at2 .ensures) (c .before .before .before .rule-fits .ensures) (c .before .before .if2 .left)
 
 returns-4 : tie.Need-returns-4
 returns-4 c =
     let z = c .before .before .before .before .before .before .before .before .before .before .before .before .before .before .before .before .before .pre in
-    seen-outs (z .0) (z .1) (read (c .before .before .before .before .before .before .before .before .before .before)) (c .before .before .before .before .before .before .before .before .before .before .children-free .ensures) (c .before .before .before .before .before .before .before .before .before .if1 .left) (c .before .before .before .before .before .before .before .before .row-at .ensures) (c .before .before .before .before .before .before .before .row-at2 .ensures) (c .before .before .before .before .before .before .rule-fits .ensures) (c .before .before .before .before .before .if2 .left) (c .before .before .before .before .joint-counts .ensures) (c .before .before .if3 .left) (c .if4 .taken)
+    seen-ins (z .0) (z .1) (read (c .before .before .before .before .before .before .before .before .before .before)) (c .before .before .before .before .before .before .before .before .before .before .children-free .ensures) (c .before .before .before .before .before .before .before .before .before .if1 .left) (c .before .before .before .before .before .before .before .before .row-at .ensures) (c .before .before .before .before .before .before .before .row-at2 .ensures) (c .before .before .before .before .before .before .rule-fits .ensures) (c .before .before .before .before .before .if2 .left) (c .before .before .before .before .feeds-back .ensures) (c .before .before .before .if3 .left) (c .before .before .joint-counts .ensures) (c .if4 .taken)
 
 returns-5 : tie.Need-returns-5
 returns-5 c =
-    let z = c .before .before .before .before .before .before .before .before .before .before .before .before .before .before .before .before .before .pre in
-    seen-right (z .0) (z .1) (read (c .before .before .before .before .before .before .before .before .before .before)) (c .before .before .before .before .before .before .before .before .before .before .children-free .ensures) (c .before .before .before .before .before .before .before .before .before .if1 .left) (c .before .before .before .before .before .before .before .before .row-at .ensures) (c .before .before .before .before .before .before .before .row-at2 .ensures) (c .before .before .before .before .before .before .rule-fits .ensures) (c .before .before .before .before .before .if2 .left) (c .before .before .before .before .joint-counts .ensures) (c .before .before .if3 .left) (c .if4 .left)
+    let z = c .before .before .before .before .before .before .before .before .before .before .before .before .before .before .before .before .before .before .before .pre in
+    seen-outs (z .0) (z .1) (read (c .before .before .before .before .before .before .before .before .before .before .before .before)) (c .before .before .before .before .before .before .before .before .before .before .before .before .children-free .ensures) (c .before .before .before .before .before .before .before .before .before .before .before .if1 .left) (c .before .before .before .before .before .before .before .before .before .before .row-at .ensures) (c .before .before .before .before .before .before .before .before .before .row-at2 .ensures) (c .before .before .before .before .before .before .before .before .rule-fits .ensures) (c .before .before .before .before .before .before .before .if2 .left) (c .before .before .before .before .before .before .feeds-back .ensures) (c .before .before .before .before .before .if3 .left) (c .before .before .before .before .joint-counts .ensures) (c .before .before .if4 .left) (c .if5 .taken)
+
+returns-6 : tie.Need-returns-6
+returns-6 c =
+    let z = c .before .before .before .before .before .before .before .before .before .before .before .before .before .before .before .before .before .before .before .pre in
+    seen-right (z .0) (z .1) (read (c .before .before .before .before .before .before .before .before .before .before .before .before)) (c .before .before .before .before .before .before .before .before .before .before .before .before .children-free .ensures) (c .before .before .before .before .before .before .before .before .before .before .before .if1 .left) (c .before .before .before .before .before .before .before .before .before .before .row-at .ensures) (c .before .before .before .before .before .before .before .before .before .row-at2 .ensures) (c .before .before .before .before .before .before .before .before .rule-fits .ensures) (c .before .before .before .before .before .before .before .if2 .left) (c .before .before .before .before .before .before .feeds-back .ensures) (c .before .before .before .before .before .if3 .left) (c .before .before .before .before .joint-counts .ensures) (c .before .before .if4 .left) (c .if5 .left)
 
 pub judge-children-spec : {M : Type 1} → statement M
 judge-children-spec =
@@ -83,7 +91,9 @@ judge-children-spec =
     row-at-requires-2
     rule-fits-requires
     returns-2
-    joint-counts-requires
+    feeds-back-requires
     returns-3
+    joint-counts-requires
     returns-4
-    returns-5)
+    returns-5
+    returns-6)
