@@ -1,4 +1,4 @@
-//! The check of a table: refusals 3 to 9 in the document's order, and the counts.
+//! The check of a table: refusals 3 to 9 and 16 in the document's order, and the counts.
 
 use crate::engine::{Counts, Refusal};
 use crate::samples::operands;
@@ -41,6 +41,13 @@ pub struct Arity {
     pub outputs: usize,
 }
 
+impl Arity {
+    /// "neither inputs nor outputs"
+    pub fn is_empty(&self) -> bool {
+        self.inputs == 0 && self.outputs == 0
+    }
+}
+
 /// What the check knows of an accepted table.
 #[derive(Clone, Debug)]
 pub struct Checked {
@@ -81,8 +88,8 @@ pub fn check(table: &[u32]) -> Result<Checked, Refusal> {
     Ok(Checked { arities, counts })
 }
 
-/// "At one node the rows are taken downwards": 4, 5, 6, 7, 8.
-fn check_node(
+/// "At one node the rows are taken downwards": 4, 5, 6, 7, 8; E7 puts 16 "after 7 and before 8".
+pub fn check_node(
     node: &Node,
     place: usize,
     arities: &[Arity],
@@ -104,6 +111,9 @@ fn check_node(
         taken[child] = true;
     }
     let arity = rule(node, arities).ok_or(7u32)?;
+    if feeds_nothing(node, arities) {
+        return Err(16);
+    }
     if arity.inputs > MOST_WIRES || arity.outputs > MOST_WIRES {
         return Err(8);
     }
@@ -158,6 +168,11 @@ fn rule(node: &Node, arities: &[Arity]) -> Option<Arity> {
     } else {
         None
     }
+}
+
+/// E7, row 16: "A recursion whose right side has neither inputs nor outputs feeds nothing back".
+fn feeds_nothing(node: &Node, arities: &[Arity]) -> bool {
+    node.kind == 11 && arities[node.second as usize].is_empty()
 }
 
 /// Whether `many` is k times `one` for some k >= 1; none of nothing is only nothing.

@@ -1,8 +1,9 @@
-//! Cases of damaged tables, aimed at each of the refusals 3 to 9.
+//! Cases of damaged tables, aimed at each of the refusals 3 to 9 and 16.
 
 use crate::arity::{check, Node};
 use crate::circuits::{beside, cable, leaf, ondemand, pair, table, Tree};
 use crate::column::text;
+use crate::empty_feedback::emptied;
 use crate::good_cases::circuit;
 use crate::random::Random;
 use crate::samples::{operands, ops, BEYOND};
@@ -11,24 +12,37 @@ use crate::script::{Command, Lent};
 pub fn bad_table_case(random: &mut Random) -> Vec<Command> {
     let size = 2 + random.below(12);
     let good = circuit(random, size).table;
-    let mut case = vec![Command::Memory(7), Command::Inputs(vec![])];
-    case.push(Command::Controls(vec![0; 16]));
+    let mut case = quiet().to_vec();
     for _ in 0..2 + random.below(4) {
         let bad = damaged(random, &good);
-        case.push(Command::Table(bad.clone()));
-        case.push(Command::Check);
-        match random.below(8) {
-            0..=2 => case.push(Command::Translate(random.below(4))),
-            3 | 4 => case.push(Command::Walk(random.within(-1, 1) as u32, 0, 0)),
-            5 => case.push(Command::Write(random.below(41))),
-            6 if bad.len().is_multiple_of(3) => {
-                case.extend([Command::File(text(&bad)), Command::Print]);
-            }
-            7 => case.extend(probed(random)),
-            _ => {}
-        }
+        hand(random, bad, &mut case);
     }
     case
+}
+
+/// What stands before damaged tables: cells that would show a write, and a block without inputs.
+pub fn quiet() -> [Command; 3] {
+    [
+        Command::Memory(7),
+        Command::Inputs(vec![]),
+        Command::Controls(vec![0; 16]),
+    ]
+}
+
+/// A damaged table, checked and mostly handed to another entry too.
+pub fn hand(random: &mut Random, bad: Vec<u32>, case: &mut Vec<Command>) {
+    case.push(Command::Table(bad.clone()));
+    case.push(Command::Check);
+    match random.below(9) {
+        0..=2 => case.push(Command::Translate(random.below(4))),
+        3 | 4 => case.push(Command::Walk(random.within(-1, 1) as u32, 0, 0)),
+        5 => case.push(Command::Write(random.below(41))),
+        6 if bad.len().is_multiple_of(3) => {
+            case.extend([Command::File(text(&bad)), Command::Print]);
+        }
+        7 | 8 => case.extend(probed(random)),
+        _ => {}
+    }
 }
 
 /// A walk with probes that is refused for its table, and might be for its ticks, its probes and its
@@ -48,7 +62,10 @@ fn probed(random: &mut Random) -> [Command; 2] {
 
 /// The table with one or two things wrong.
 pub fn damaged(random: &mut Random, good: &[u32]) -> Vec<u32> {
-    let aim = random.pick(&[3, 4, 5, 6, 7, 8, 9, 9]);
+    let aim = random.pick(&[3, 4, 5, 6, 7, 8, 9, 9, 16]);
+    if aim == 16 {
+        return emptied(random, good);
+    }
     for attempt in 0.. {
         let mut bad = good.to_vec();
         let node = random.below(bad.len() / 3);
@@ -69,7 +86,8 @@ pub fn damaged(random: &mut Random, good: &[u32]) -> Vec<u32> {
     unreachable!()
 }
 
-fn damage(random: &mut Random, bad: &mut Vec<u32>, node: usize, aim: u32) {
+/// A fault that aims at a row, at a node where the row has a place to choose.
+pub fn damage(random: &mut Random, bad: &mut Vec<u32>, node: usize, aim: u32) {
     let at = 3 * node;
     match aim {
         3 => lengthen(random, bad),

@@ -65,7 +65,8 @@ fn number(random: &mut Random) -> Tree {
     leaf(1, value)
 }
 
-fn source(random: &mut Random) -> Tree {
+/// A number or a control.
+pub fn source(random: &mut Random) -> Tree {
     if random.percent(30) {
         leaf(2, random.within(0, 15))
     } else {
@@ -217,7 +218,14 @@ fn recursion(random: &mut Random, inputs: usize, outputs: usize, l: usize, r: us
         true => 1 + random.below(most),
         false => 0,
     };
-    let (q, fed) = (some(random, 3).min(outputs), some(random, 2));
+    let (mut q, mut fed) = (some(random, 3).min(outputs), some(random, 2));
+    // E7: a right side with "neither inputs nor outputs" is refused; one of the two is enough.
+    if q + fed == 0 {
+        match outputs > 0 && random.percent(50) {
+            true => q = 1,
+            false => fed = 1 + random.below(2),
+        }
+    }
     let first = build(random, fed + inputs, outputs, l);
     pair(11, first, build(random, q, fed, r))
 }

@@ -75,7 +75,8 @@ pub trait Engine {
 }
 
 impl Refusal {
-    /// "A refusal is its number and a place: the line or node for 1 to 9, else -1."
+    /// "A refusal is its number and a place: the line or node for 1 to 9, else -1." E7: "refusal 16,
+    /// with the node as its place".
     pub fn nowhere(number: u32) -> Refusal {
         Refusal { number, place: -1 }
     }

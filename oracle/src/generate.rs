@@ -4,6 +4,7 @@ use crate::bad_codes::{bad_code_case, garbage_case};
 use crate::bad_files::{bad_file_case, round_case};
 use crate::bad_tables::bad_table_case;
 use crate::clip_cases::clipped_case;
+use crate::empty_feedback::feedback_case;
 use crate::good_cases::{good_case, long_case, usual_size};
 use crate::limit_cases::{limit_case, nodes_case, operations_case};
 use crate::probe_cases::probed_case;
@@ -49,6 +50,7 @@ fn one(random: &mut Random, number: usize) -> (&'static str, Vec<Command>) {
         430..=479 => ("garbage cells", garbage_case(random)),
         480..=629 => ("probes", probed_case(random)),
         630..=719 => ("clipped delays", clipped_case(random)),
+        720..=759 => ("empty feedback", feedback_case(random)),
         _ => {
             let size = usual_size(random);
             ("circuit", good_case(random, size))

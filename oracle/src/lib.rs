@@ -10,6 +10,7 @@ pub mod circuits;
 pub mod clip_cases;
 pub mod clocks;
 pub mod column;
+pub mod empty_feedback;
 pub mod engine;
 pub mod entries;
 pub mod flat;

@@ -12,7 +12,7 @@ use crate::samples::{ops, SELECTOR};
 use crate::script::{Command, Lent};
 
 pub fn limit_case(random: &mut Random) -> Vec<Command> {
-    match random.weighted(&[2, 6, 3, 2, 1]) {
+    match random.weighted(&[2, 6, 3, 2, 2]) {
         0 => wires(random),
         1 => instructions(random),
         2 => cells(random),

@@ -243,7 +243,7 @@ fn refused(
     named: &[u32],
     case: &mut Vec<Command>,
 ) {
-    let ticks = random.pick(&[0, 1, 2, 2, 3]);
+    let ticks = random.pick(&[0, 0, 1, 2, 3]);
     let mut call = Call::new(random, circuit, named, ticks);
     for _ in 0..random.pick(&[1, 1, 1, 2, 3]) {
         call.spoil(random, wires);

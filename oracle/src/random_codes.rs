@@ -104,7 +104,7 @@ pub fn random_code_case(random: &mut Random) -> Vec<Command> {
         case.push(Command::Load(random.below(12) as u32, 12));
     }
     for _ in 0..1 + random.below(3) {
-        let mut code = match random.percent(45) {
+        let mut code = match random.percent(60) {
             true => delays_code(random),
             false => random_code(random),
         };

@@ -1,9 +1,11 @@
 //! What the default mix holds: every refusal, every kind, bodies that demands reach, tables with
-//! several loose nodes, and delays that are clipped.
+//! several loose nodes, delays that are clipped, and recursions that feed nothing back.
 
 mod flat;
+mod found;
 mod watched;
 
+use found::feedback::Feedback;
 use oracle::arity::{check, Node};
 use oracle::column::parse;
 use oracle::generate::generate;
@@ -18,7 +20,7 @@ use watched::clips::Clips;
 #[test]
 fn refusals() {
     let printed = expected(&generate(1, 3000));
-    for number in 1..=15 {
+    for number in 1..=16 {
         let answer = format!("refused {number} ");
         let times = printed.matches(&answer).count();
         println!("refusal {number}: {times}");
@@ -43,6 +45,9 @@ struct Seen {
     feedback_in_bodies: usize,
     bodies_in_feedback: usize,
     feedback_in_feedback: usize,
+    /// Recursions whose right side is 0 → r, and those with q → 0.
+    only_feeding: usize,
+    only_fed: usize,
     delays_in_bodies: usize,
     long_blocks: usize,
     changing_outputs: usize,
@@ -64,7 +69,8 @@ fn within(table: &[u32], outer: u32, inner: u32) -> bool {
 
 impl Seen {
     fn circuit(&mut self, table: &[u32], ticks: usize, inputs: &[u32], controls: &[u32]) {
-        let n = check(table).expect("accepted").counts.inputs as usize;
+        let checked = check(table).expect("accepted");
+        let n = checked.counts.inputs as usize;
         let mut meaning = Meaning::of(table);
         let outs: Vec<Vec<u32>> = (0..ticks)
             .map(|tick| meaning.tick(&inputs[tick * n..(tick + 1) * n], controls))
@@ -75,7 +81,13 @@ impl Seen {
             self.changing_outputs += usize::from(outs.iter().any(|out| *out != outs[0]));
         }
         for number in 0..table.len() / 3 {
-            self.kinds[table[3 * number] as usize] += 1;
+            let node = Node::at(table, number);
+            self.kinds[node.kind as usize] += 1;
+            if node.kind == 11 {
+                let right = checked.arities[node.second as usize];
+                self.only_feeding += usize::from(right.inputs == 0);
+                self.only_fed += usize::from(right.outputs == 0);
+            }
         }
         self.feedback_in_feedback += usize::from(within(table, 11, 11));
         self.bodies_in_feedback += usize::from(within(table, 11, 12));
@@ -137,6 +149,8 @@ fn kinds() {
         seen.feedback_in_bodies,
         seen.bodies_in_feedback,
         seen.feedback_in_feedback,
+        seen.only_feeding,
+        seen.only_fed,
         seen.delays_in_bodies,
     ];
     assert!(often.iter().all(|&times| times >= 100), "{often:?}");
@@ -313,6 +327,15 @@ fn skipped_delays_of_codes() {
         seen.twice,
     ];
     assert!(often.iter().all(|&times| times >= 7), "{often:?}");
+}
+
+/// E7: recursions that feed nothing back, at any node and with other faults around them, and
+/// accepted ones that come near.
+#[test]
+fn empty_feedback() {
+    let seen = Feedback::of(&generate(1, 3000));
+    println!("{seen:#?}");
+    assert!(seen.holds());
 }
 
 /// A case does not depend on earlier ones.

@@ -275,6 +275,31 @@ fn ops() {
     }
 }
 
+/// E7: "A recursion whose right side has neither inputs nor outputs"; "refusal 16, with the node as
+/// its place".
+#[test]
+fn empty_feedback() {
+    // A number that is cut, then a cable or a cut.
+    let with = |rest: &[i32]| {
+        let nothing = [1, 7, 0, 6, 0, 0, 7, 0, 1];
+        check(&words(&[&nothing[..], rest].concat())).map(|checked| checked.counts.inputs)
+    };
+    assert_eq!(with(&[5, 0, 0, 11, 3, 2]), Err(Refusal::at(16, 4)));
+    assert_eq!(
+        with(&[5, 0, 0, 11, 3, 2, 13, 0, 0]),
+        Err(Refusal::at(16, 4))
+    );
+    assert_eq!(with(&[5, 0, 0, 11, 2, 3]), Err(Refusal::at(7, 4)));
+    assert_eq!(with(&[5, 0, 0, 11, 4, 2]), Err(Refusal::at(6, 4)));
+    assert_eq!(with(&[5, 0, 0, 8, 3, 2]), Ok(1));
+    // Its clock is an input.
+    assert_eq!(with(&[12, 2, 0, 5, 0, 0, 11, 4, 3]), Ok(1));
+    for right in [[6, 0, 0], [1, 7, 0]] {
+        let only = [vec![3, 1, 0], right.to_vec(), vec![11, 0, 1]].concat();
+        assert!(check(&only).is_ok());
+    }
+}
+
 /// E4: "The translator's print gains that column in each instruction line".
 #[test]
 fn selector_print() {
