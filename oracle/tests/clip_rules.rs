@@ -2,12 +2,13 @@
 
 mod flat;
 mod misclipped;
+mod shows;
 mod watched;
 
 use misclipped::{Rule, AMOUNTS, DELAYS, PLACES, TICKS};
 use oracle::generate::generate;
-use oracle::parse::parse;
 use oracle::script::{expected, play, Command};
+use shows::cases;
 use std::cell::RefCell;
 use watched::{Call, Reporting};
 
@@ -40,9 +41,7 @@ fn differences(cases: &[&[Command]]) -> Vec<usize> {
 
 #[test]
 fn in_the_mix() {
-    let commands = generate(1, 3000);
-    let cases = commands.chunk_by(|_, next| !matches!(next, Command::Title(_)));
-    let counts = differences(&cases.collect::<Vec<_>>());
+    let counts = differences(&cases(&generate(1, 3000)));
     for (rule, count) in rules().zip(counts) {
         println!("{}: {count} cases", rule.name);
         assert!(count >= rule.least, "{}", rule.name);
@@ -51,9 +50,7 @@ fn in_the_mix() {
 
 #[test]
 fn by_hand() {
-    let script = concat!(env!("CARGO_MANIFEST_DIR"), "/../crates/cases/stdin");
-    let commands = parse(&std::fs::read(script).expect("a script"));
-    let counts = differences(&[&commands]);
+    let counts = differences(&[&shows::by_hand()]);
     for (rule, count) in rules().zip(counts) {
         assert!(count > 0, "{}", rule.name);
     }

@@ -2,49 +2,29 @@
 
 mod flat;
 mod misprobed;
+mod shows;
 
 use misprobed::{Rule, KINDS, RECORDED, REFUSED, RIGHT};
 use oracle::generate::generate;
-use oracle::parse::parse;
-use oracle::script::{expected, play, Command};
+use oracle::script::Command;
+use shows::{all_show, cases};
 
 fn rules() -> impl Iterator<Item = &'static Rule> {
     RECORDED.iter().chain(&KINDS).chain(&REFUSED)
 }
 
-/// The cases with walks with probes.
-fn probed(commands: &[Command]) -> Vec<&[Command]> {
-    let cases = commands.chunk_by(|_, next| !matches!(next, Command::Title(_)));
-    let walks = |case: &&[Command]| case.iter().any(|c| matches!(c, Command::Probed(_)));
-    cases.filter(walks).collect()
-}
-
-/// How many cases a rule answers otherwise.
-fn differences(cases: &[&[Command]], rule: &Rule) -> usize {
-    let differs = |case: &&&[Command]| play(case, rule) != expected(case);
-    cases.iter().filter(differs).count()
-}
-
 #[test]
 fn in_the_mix() {
     let commands = generate(1, 3000);
-    let cases = probed(&commands);
-    assert!(cases.len() >= 400, "{} cases", cases.len());
-    assert_eq!(differences(&cases, &RIGHT), 0);
-    for rule in rules() {
-        let count = differences(&cases, rule);
-        println!("{}: {count} cases", rule.name);
-        assert!(count >= rule.least, "{}", rule.name);
-    }
+    let mut probed = cases(&commands);
+    probed.retain(|case| case.iter().any(|c| matches!(c, Command::Probed(_))));
+    assert!(probed.len() >= 400, "{} cases", probed.len());
+    let least = |rule: &Rule| (rule.name, rule.least);
+    all_show(&probed, &RIGHT, rules(), least);
 }
 
 #[test]
 fn by_hand() {
-    let script = concat!(env!("CARGO_MANIFEST_DIR"), "/../crates/cases/stdin");
-    let commands = parse(&std::fs::read(script).expect("a script"));
-    let wanted = expected(&commands);
-    assert!(play(&commands, &RIGHT) == wanted);
-    for rule in rules() {
-        assert!(play(&commands, rule) != wanted, "{}", rule.name);
-    }
+    let one = |rule: &Rule| (rule.name, 1);
+    all_show(&[&shows::by_hand()], &RIGHT, rules(), one);
 }

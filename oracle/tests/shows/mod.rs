@@ -1,0 +1,39 @@
+//! Wrong rules show: each in so many cases of the default mix, and in the cases by hand.
+#![allow(dead_code)] // a test uses a part of it
+
+use oracle::engine::Engine;
+use oracle::parse::parse;
+use oracle::script::{expected, play, Command};
+
+/// A script case by case.
+pub fn cases(commands: &[Command]) -> Vec<&[Command]> {
+    let cases = commands.chunk_by(|_, next| !matches!(next, Command::Title(_)));
+    cases.collect()
+}
+
+/// The cases by hand, as one.
+pub fn by_hand() -> Vec<Command> {
+    let script = concat!(env!("CARGO_MANIFEST_DIR"), "/../crates/cases/stdin");
+    parse(&std::fs::read(script).expect("a script"))
+}
+
+/// The right rule answers every case as expected, and each of the others so many otherwise, at
+/// least; `least` has a rule's name with that number.
+pub fn all_show<'a, R: Engine + 'a>(
+    cases: &[&[Command]],
+    right: &R,
+    wrong: impl Iterator<Item = &'a R>,
+    least: impl Fn(&R) -> (&'static str, usize),
+) {
+    let wanted: Vec<String> = cases.iter().map(|case| expected(case)).collect();
+    let differences = |rule: &R| {
+        let answered = cases.iter().map(|case| play(case, rule));
+        answered.zip(&wanted).filter(|(a, w)| a != *w).count()
+    };
+    assert_eq!(differences(right), 0);
+    for rule in wrong {
+        let (count, (name, least)) = (differences(rule), least(rule));
+        println!("{name}: {count} cases");
+        assert!(count >= least, "{name}");
+    }
+}
