@@ -13,10 +13,10 @@
  * buffer of the same call. One that is longer than needed keeps its content past the needed part.
  *
  * Answers. Every call is answered by one uint64_t. Bits 0 to 31 are the count that the call calls for, or the refusal's
- * place as a 32-bit two's complement number: the line or node for refusals 1 to 9, else -1. Bits 32 to 47 are the
- * refusal's number, 0 if there is none. Bits 48 to 63 are the count of ticks with a clipped delay, 0 where nothing of the
- * kind is reported. circuit_count, circuit_place, circuit_refusal and circuit_clipped read them. A refused call writes to no
- * buffer. Each function names its refusals in the order in which they are looked for; "the table's" are 3 to 9 as
+ * place as a 32-bit two's complement number: the line or node for refusals 1 to 9, the node for 16, else -1. Bits 32 to 47
+ * are the refusal's number, 0 if there is none. Bits 48 to 63 are the count of ticks with a clipped delay, 0 where nothing of
+ * the kind is reported. circuit_count, circuit_place, circuit_refusal and circuit_clipped read them. A refused call writes to
+ * no buffer. Each function names its refusals in the order in which they are looked for; "the table's" are 3 to 9 and 16 as
  * circuit_check has them. docs/FORMAT.md is the reference.
  *
  * Calls from an audio thread. The functions keep no state of their own, allocate nothing, take no lock and make no
@@ -89,7 +89,8 @@ enum {
     CIRCUIT_SHORT_BUFFER = 12,          /* the buffer to be filled or changed is shorter than needed */
     CIRCUIT_WRONG_CODE = 13,            /* numbers that are no flat code */
     CIRCUIT_WRONG_BLOCK = 14,           /* ticks not 0 to 4,096, inputs that are not ticks times the circuit's, or controls that are not 16 */
-    CIRCUIT_WRONG_PROBES = 15           /* an odd count of probe numbers, more than 16 probes, or one that names no output of the table */
+    CIRCUIT_WRONG_PROBES = 15,          /* an odd count of probe numbers, more than 16 probes, or one that names no output of the table */
+    CIRCUIT_EMPTY_FEEDBACK = 16         /* a recursion whose right side has neither inputs nor outputs */
 };
 
 /* The refusal's number, 0 for an accepted call. */
@@ -116,7 +117,7 @@ uint32_t circuit_clipped(uint64_t answer);
 
 /* Checks a table, three numbers to a node, and writes inputs, outputs, instructions and cells into the first four of
  * counts. Answers 4. The reported instructions and cells may lie above the limits.
- * Refusals: 3; node by node 4 to 8; 9; 12. */
+ * Refusals: 3; node by node 4 to 7, 16, 8; 9; 12. */
 uint64_t circuit_check(const int32_t *table, size_t table_numbers, uint32_t *counts, size_t counts_length);
 
 /* Reads a column file into a table. Answers with the count of nodes n; 3n numbers are written.

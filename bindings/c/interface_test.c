@@ -57,10 +57,12 @@ static void counts_and_refusals(void) {
     static const int32_t integrator[] = {3, 1, 0, 5, 0, 0, 11, 0, 1};
     static const int32_t loose[] = {5, 0, 0, 5, 0, 0};
     static const int32_t several[] = {5, 0, 0, 1, 4, 0, 12, 0, 0, 2, 3, 0, 12, 2, 0};
+    static const int32_t empty[] = {1, 7, 0, 6, 0, 0, 7, 0, 1, 5, 0, 0, 11, 3, 2};
     uint32_t counts[] = {9, 9, 9, 9, 9};
     expect("a short report", circuit_check(integrator, 9, counts, 3), 12, -1);
     expect("a loose node", circuit_check(loose, 6, counts, 5), 9, 0);
     expect("loose nodes 1 and 3", circuit_check(several, 15, counts, 5), 9, 1);
+    expect("empty feedback", circuit_check(empty, 15, counts, 5), CIRCUIT_EMPTY_FEEDBACK, 4);
     same("counts after refusals", (int32_t)counts[0], 9);
     expect("the check", circuit_check(integrator, 9, counts, 5), 0, 4);
     same("inputs", (int32_t)counts[0], 1);

@@ -76,9 +76,9 @@ pub const STACK_LOAD: usize = 16 * 1024;
 /// Why a call was refused, and where.
 #[derive(Clone, Copy, Debug, PartialEq, Eq, Hash)]
 pub struct Refusal {
-    /// 1 to 15, as the document numbers them.
+    /// 1 to 16, as the document numbers them.
     pub number: u32,
-    /// The line or node for refusals 1 to 9, else -1.
+    /// The line or node for refusals 1 to 9, the node for 16, else -1.
     pub place: i32,
 }
 
@@ -101,6 +101,7 @@ impl Refusal {
             13 => "numbers that are no flat code",
             14 => "ticks not 0 to 4,096, inputs that are not ticks times the circuit's, or controls that are not 16",
             15 => "an odd count of probe numbers, more than 16 probes, or one that names no output of the table",
+            16 => "a recursion whose right side has neither inputs nor outputs",
             _ => "no refusal of the document",
         }
     }
@@ -111,7 +112,7 @@ impl fmt::Display for Refusal {
         let at = match self.number {
             1 | 2 => " at line ",
             3 => " at line or node ",
-            4..=9 => " at node ",
+            4..=9 | 16 => " at node ",
             _ => return write!(f, "refusal {}: {}", self.number, self.meaning()),
         };
         let Refusal { number, place } = self;
@@ -166,7 +167,7 @@ fn worked(answer: u64) -> Result<Worked, Refusal> {
 
 /// Checks a table, three numbers to a node, and reports its inputs, outputs, instructions and cells.
 ///
-/// Refusals: 3; node by node 4 to 8; 9.
+/// Refusals: 3; node by node 4 to 7, 16, 8; 9.
 pub fn check(table: &[i32]) -> Result<Counts, Refusal> {
     let mut counts = [0; 4];
     decoded(sys::check(table, &mut counts))?;

@@ -125,6 +125,25 @@ fn nodes() {
     assert_eq!(unchecked(&[[5, 0, 0], [5, 0, 0]]), refusal(9, 0));
 }
 
+/// E7: "A recursion whose right side has neither inputs nor outputs"; the place is the recursion, and the first wrong node
+/// decides.
+#[test]
+fn empty_feedback() {
+    const EMPTY: [[i32; 3]; 5] = [[1, 7, 0], [6, 0, 0], [7, 0, 1], [5, 0, 0], [11, 3, 2]];
+    let with = |later: &[[i32; 3]]| unchecked(&[&EMPTY, later].concat());
+    assert_eq!(unchecked(&EMPTY), refusal(16, 4));
+    assert_eq!(with(&[[12, 4, 0]]), refusal(16, 4));
+    assert_eq!(with(&[[13, 0, 0]]), refusal(16, 4));
+    assert_eq!(with(&[[7, 4, 4]]), refusal(16, 4));
+    let earlier = [[5, 0, 0], [3, 1, 0], [7, 0, 1]];
+    let moved = [[1, 7, 0], [6, 0, 0], [7, 3, 4], [5, 0, 0], [11, 6, 5]];
+    assert_eq!(unchecked(&[&earlier[..], &moved].concat()), refusal(7, 2));
+    for right in [[6, 0, 0], [1, 7, 0]] {
+        let fed = [[5, 0, 0], right, [11, 0, 1]].concat();
+        assert_eq!(circuit::check(&fed).map(|counts| counts.outputs), Ok(1));
+    }
+}
+
 /// "The lowest-numbered node that is nobody's child", here 1 of 1 and 3, and 2 of 2 and 3.
 #[test]
 fn loose_nodes() {

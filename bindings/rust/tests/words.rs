@@ -1,8 +1,9 @@
-//! What is said of a refusal, in docs/FORMAT.md, is said in the same words in the C header, at the engine's enum and by
-//! this package, and so is the order of each call's refusals; and the header's limits are this package's.
+//! What is said of a refusal, in docs/FORMAT.md, is said in the same words in README.md, in the C header, at the engine's enum
+//! and by this package, and so is the order of each call's refusals; and the header's limits are this package's.
 use circuit::Refusal;
 
 const FORMAT: &str = include_str!("../../../docs/FORMAT.md");
+const README: &str = include_str!("../../../README.md");
 const HEADER: &str = include_str!("../../c/circuit.h");
 const ENUM: &str = include_str!("../../../crates/refusal/src/lib.rt");
 
@@ -49,9 +50,26 @@ fn upper(name: &str) -> String {
 }
 
 #[test]
-fn numbered_from_1_to_15() {
+fn numbered_from_1_to_16() {
     let numbers: Vec<u32> = rows().into_iter().map(|(number, _, _)| number).collect();
-    assert_eq!(numbers, (1..=15).collect::<Vec<_>>());
+    assert_eq!(numbers, (1..=16).collect::<Vec<_>>());
+}
+
+/// By the place where they are looked for, so in another order.
+#[test]
+fn in_the_readme() {
+    let lines = between(README, "## Refusals\n", "\n## ").lines();
+    let mut said: Vec<(u32, String)> = lines
+        .filter_map(|line| {
+            let [_, number, words] = line.split(" | ").collect::<Vec<_>>()[..] else {
+                return None;
+            };
+            Some((number.parse().ok()?, words.strip_suffix(" |")?.into()))
+        })
+        .collect();
+    said.sort();
+    let wanted: Vec<(u32, String)> = rows().into_iter().map(|(n, _, w)| (n, w)).collect();
+    assert_eq!(said, wanted);
 }
 
 #[test]
