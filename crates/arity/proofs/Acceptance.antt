@@ -79,7 +79,7 @@ fields-of k a b g h =
         known-false (twoChildren k)
         (λ q. n (leb-true _ _ (and-left (leb 7 k) (leb k 11) q)) (leb-true _ _ (and-right (leb 7 k) (leb k 11) q)))
 
--- a table of the stated form, whose nodes have arities: no node is refused, none is loose, so the check reports its counts
+-- a table of the stated form, whose nodes fit: no node is refused, none is loose, so the check reports its counts
 module _ (t : List ℕ) (f : Formed t) (w : Fitting t) where
   rule-fits : (i : ℕ) → i < nodes t → ruleFits t i ≡ true
   unfolding ruleFits Ruled
@@ -155,10 +155,10 @@ module _ (t : List ℕ) (x : Passed t) where
         attached = λ j h. attached j h (taken t (nodes t) j) refl;
       }
 
--- exactly the tables of the stated form are accepted whose nodes have arities by the published rules, none above 32
+-- exactly the tables of the stated form are accepted whose nodes fit
 accepted : (t : List ℕ) → IsAccepted t ↔ (Formed t × Fitting t)
 accepted t = (λ (ks, e). let x = has-passed t ks e .0 in (formed t x, fitting t (nodes t) (x .right)), λ (f, w). (_, complete t f w))
 
--- so a table of the form is accepted exactly where they count each of its nodes
+-- so a table of the form is accepted exactly where each of its nodes does
 pub acceptance : Acceptance
 acceptance t f = (λ h. accepted t .0 h .1, λ w. accepted t .1 (f, w))

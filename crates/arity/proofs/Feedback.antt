@@ -24,8 +24,8 @@ pub feedback-other : (k : ℕ) (r : Tree) → (k ≡ 11 → ⊥) → feedbackFor
 feedback-other k r n = rw (ne-eqb k 11 n)
 
 -- a node that the test fails is a recursion, and its right side 0 → 0
-pub no-feedback : (k : ℕ) (r : Tree) {a b : ℕ} → Arity r a b → feedback k (ins r) (outs r) ≡ false → (k ≡ 11) × Arity r 0 0
-no-feedback k r w f =
+pub empty-right : (k : ℕ) (r : Tree) {a b : ℕ} → Arity r a b → feedback k (ins r) (outs r) ≡ false → (k ≡ 11) × Arity r 0 0
+empty-right k r w f =
     let empty = eqb (ins r) 0 && eqb (outs r) 0 in
     let e = not-false (eqb k 11 && empty) f in
     let d = and-right (eqb k 11) empty e in
@@ -40,7 +40,7 @@ feedback-of k r w n = go (feedback k (ins r) (outs r)) refl
   where
     go : (x : Bool) → feedback k (ins r) (outs r) ≡ x → feedbackFor k r
     go true e = e
-    go false e = let (q, z) = no-feedback k r w e in absurd (n q z)
+    go false e = let (q, z) = empty-right k r w e in absurd (n q z)
 
 -- a recursion that passes it feeds something back
 pub some-feedback : (k : ℕ) (r : Tree) → k ≡ 11 → feedbackFor k r → 0 < ins r + outs r

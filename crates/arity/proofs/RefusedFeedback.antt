@@ -10,7 +10,7 @@ use Rattle.arity.specs.Check.{feedsBack, narrow, refusalAt, firstRefused
 use Rattle.arity.specs.Formed.{Children}
 use Rattle.arity.specs.Feedback.{EmptyFeedback, RefusedFeedback}
 use Rattle.arity.proofs.Tests.{passed, known-false}
-use Rattle.arity.proofs.Feedback.{feedback-other, no-feedback}
+use Rattle.arity.proofs.Feedback.{feedback-other, empty-right}
 use Rattle.arity.proofs.Taken.{children-of}
 use Rattle.arity.proofs.Trees.{View}
 use Rattle.arity.proofs.Trees.View.{alone, two, one}
@@ -36,7 +36,7 @@ module _ (t : List ℕ) (i : ℕ) (e : refusalAt t i ≡ 16) (before : (j : ℕ)
       go : View t i → EmptyFeedback t i
       go (alone a v) = absurd (false≢true (sym not-fed ∙ feedback-other (kindAt t i) (tree t (secondAt t i)) (λ k. omega arith)))
       go (two a b v) =
-          let (k, z) = no-feedback (kindAt t i) (tree t (secondAt t i)) (arities t i before _ (kids .second a b .lower)) not-fed in
+          let (k, z) = empty-right (kindAt t i) (tree t (secondAt t i)) (arities t i before _ (kids .second a b .lower)) not-fed in
           record { left = tree t (firstAt t i); right = tree t (secondAt t i); recursive = rw k at v; empty = z; first = λ q h. fitting t i before q (omega arith) }
       go (one a v) = absurd (false≢true (sym not-fed ∙ feedback-other (kindAt t i) (tree t (secondAt t i)) (λ k. omega arith)))
 
