@@ -49,9 +49,7 @@ pub trait Engine {
     fn walk(
         &self,
         table: &[u32],
-        ticks: u32,
-        inputs: &[u32],
-        controls: &[u32],
+        block: &Block,
         cells: &mut [u32],
         outputs: &mut [u32],
     ) -> Result<Worked, Refusal>;
@@ -66,9 +64,7 @@ pub trait Engine {
     fn run(
         &self,
         code: &[u32],
-        ticks: u32,
-        inputs: &[u32],
-        controls: &[u32],
+        block: &Block,
         cells: &mut [u32],
         outputs: &mut [u32],
     ) -> Result<Worked, Refusal>;

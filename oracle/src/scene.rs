@@ -60,8 +60,7 @@ impl<E: Engine> Actor for Live<'_, E> {
         self.0.load(named, cells)
     }
     fn walk(&mut self, table: &[u32], block: &Block, cells: &mut [u32], out: &mut [u32]) -> Work {
-        let (ticks, inputs, controls) = (block.ticks, block.inputs, block.controls);
-        self.0.walk(table, ticks, inputs, controls, cells, out)
+        self.0.walk(table, block, cells, out)
     }
     fn walk_probed(
         &mut self,
@@ -74,8 +73,7 @@ impl<E: Engine> Actor for Live<'_, E> {
         self.0.walk_probed(table, block, cells, out, probes)
     }
     fn run(&mut self, code: &[u32], block: &Block, cells: &mut [u32], out: &mut [u32]) -> Work {
-        let (ticks, inputs, controls) = (block.ticks, block.inputs, block.controls);
-        self.0.run(code, ticks, inputs, controls, cells, out)
+        self.0.run(code, block, cells, out)
     }
 }
 

@@ -28,21 +28,8 @@ impl Engine for Flat {
     fn load(&self, named: u32, cells: &mut [u32]) -> Answer {
         Past::default().load(named, cells)
     }
-    fn walk(
-        &self,
-        table: &[u32],
-        ticks: u32,
-        inputs: &[u32],
-        controls: &[u32],
-        cells: &mut [u32],
-        outputs: &mut [u32],
-    ) -> Work {
-        let block = Block {
-            ticks,
-            inputs,
-            controls,
-        };
-        Past::default().walk(table, &block, cells, outputs)
+    fn walk(&self, table: &[u32], block: &Block, cells: &mut [u32], outputs: &mut [u32]) -> Work {
+        Past::default().walk(table, block, cells, outputs)
     }
     fn walk_probed(
         &self,
@@ -54,20 +41,7 @@ impl Engine for Flat {
     ) -> Work {
         Past::default().walk_probed(table, block, cells, outputs, probes)
     }
-    fn run(
-        &self,
-        code: &[u32],
-        ticks: u32,
-        inputs: &[u32],
-        controls: &[u32],
-        cells: &mut [u32],
-        outputs: &mut [u32],
-    ) -> Work {
-        let block = Block {
-            ticks,
-            inputs,
-            controls,
-        };
-        Past::default().run(code, None, &block, cells, outputs)
+    fn run(&self, code: &[u32], block: &Block, cells: &mut [u32], outputs: &mut [u32]) -> Work {
+        Past::default().run(code, None, block, cells, outputs)
     }
 }

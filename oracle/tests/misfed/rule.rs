@@ -96,22 +96,13 @@ impl Engine for Rule {
     fn load(&self, named: u32, cells: &mut [u32]) -> Answer {
         Flat.load(named, cells)
     }
-    fn walk(
-        &self,
-        table: &[u32],
-        ticks: u32,
-        inputs: &[u32],
-        controls: &[u32],
-        cells: &mut [u32],
-        outputs: &mut [u32],
-    ) -> Work {
+    fn walk(&self, table: &[u32], block: &Block, cells: &mut [u32], outputs: &mut [u32]) -> Work {
         let tried = |table: &[u32]| {
             let (cells, outputs) = (&mut cells.to_vec(), &mut outputs.to_vec());
-            Flat.walk(table, ticks, inputs, controls, cells, outputs)
-                .err()
+            Flat.walk(table, block, cells, outputs).err()
         };
         let table = self.taken(Entry::Walk, table, tried)?;
-        Flat.walk(&table, ticks, inputs, controls, cells, outputs)
+        Flat.walk(&table, block, cells, outputs)
     }
     fn walk_probed(
         &self,
@@ -133,15 +124,7 @@ impl Engine for Rule {
         let table = self.taken(Entry::Probed, table, tried)?;
         Flat.walk_probed(&table, block, cells, outputs, probes)
     }
-    fn run(
-        &self,
-        code: &[u32],
-        ticks: u32,
-        inputs: &[u32],
-        controls: &[u32],
-        cells: &mut [u32],
-        outputs: &mut [u32],
-    ) -> Work {
-        Flat.run(code, ticks, inputs, controls, cells, outputs)
+    fn run(&self, code: &[u32], block: &Block, cells: &mut [u32], outputs: &mut [u32]) -> Work {
+        Flat.run(code, block, cells, outputs)
     }
 }

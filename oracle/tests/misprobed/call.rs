@@ -188,16 +188,8 @@ impl Engine for Rule {
     fn load(&self, named: u32, cells: &mut [u32]) -> Answer {
         Flat.load(named, cells)
     }
-    fn walk(
-        &self,
-        table: &[u32],
-        ticks: u32,
-        inputs: &[u32],
-        controls: &[u32],
-        cells: &mut [u32],
-        outputs: &mut [u32],
-    ) -> Work {
-        Flat.walk(table, ticks, inputs, controls, cells, outputs)
+    fn walk(&self, table: &[u32], block: &Block, cells: &mut [u32], outputs: &mut [u32]) -> Work {
+        Flat.walk(table, block, cells, outputs)
     }
     fn walk_probed(
         &self,
@@ -226,15 +218,7 @@ impl Engine for Rule {
         }
         answer
     }
-    fn run(
-        &self,
-        code: &[u32],
-        ticks: u32,
-        inputs: &[u32],
-        controls: &[u32],
-        cells: &mut [u32],
-        outputs: &mut [u32],
-    ) -> Work {
-        Flat.run(code, ticks, inputs, controls, cells, outputs)
+    fn run(&self, code: &[u32], block: &Block, cells: &mut [u32], outputs: &mut [u32]) -> Work {
+        Flat.run(code, block, cells, outputs)
     }
 }

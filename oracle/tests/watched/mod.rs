@@ -198,14 +198,6 @@ impl<F: Fn(&Call) -> u32> Reporting<F> {
     }
 }
 
-fn block<'a>(ticks: u32, inputs: &'a [u32], controls: &'a [u32]) -> Block<'a> {
-    Block {
-        ticks,
-        inputs,
-        controls,
-    }
-}
-
 impl<F: Fn(&Call) -> u32> Engine for Reporting<F> {
     fn check(&self, table: &[u32]) -> Result<Counts, Refusal> {
         Flat.check(table)
@@ -223,19 +215,10 @@ impl<F: Fn(&Call) -> u32> Engine for Reporting<F> {
         self.before.set(0);
         Flat.load(named, cells)
     }
-    fn walk(
-        &self,
-        table: &[u32],
-        ticks: u32,
-        inputs: &[u32],
-        controls: &[u32],
-        cells: &mut [u32],
-        outputs: &mut [u32],
-    ) -> Work {
+    fn walk(&self, table: &[u32], block: &Block, cells: &mut [u32], outputs: &mut [u32]) -> Work {
         let before = cells.to_vec();
-        let answer = Flat.walk(table, ticks, inputs, controls, cells, outputs);
-        let block = block(ticks, inputs, controls);
-        self.walked(Entry::Walk, table, &block, &before, answer)
+        let answer = Flat.walk(table, block, cells, outputs);
+        self.walked(Entry::Walk, table, block, &before, answer)
     }
     fn walk_probed(
         &self,
@@ -249,20 +232,11 @@ impl<F: Fn(&Call) -> u32> Engine for Reporting<F> {
         let answer = Flat.walk_probed(table, block, cells, outputs, probes);
         self.walked(Entry::Probed, table, block, &before, answer)
     }
-    fn run(
-        &self,
-        code: &[u32],
-        ticks: u32,
-        inputs: &[u32],
-        controls: &[u32],
-        cells: &mut [u32],
-        outputs: &mut [u32],
-    ) -> Work {
+    fn run(&self, code: &[u32], block: &Block, cells: &mut [u32], outputs: &mut [u32]) -> Work {
         let before = cells.to_vec();
-        let answer = Flat.run(code, ticks, inputs, controls, cells, outputs);
-        let block = block(ticks, inputs, controls);
+        let answer = Flat.run(code, block, cells, outputs);
         self.put(Entry::Run, code, answer, || {
-            self::ticks(code, None, &block, &before)
+            ticks(code, None, block, &before)
         })
     }
 }

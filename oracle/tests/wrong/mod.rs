@@ -224,26 +224,13 @@ impl Engine for Wrong {
     fn load(&self, named: u32, cells: &mut [u32]) -> Answer {
         Past::default().load(named, cells)
     }
-    fn walk(
-        &self,
-        table: &[u32],
-        ticks: u32,
-        inputs: &[u32],
-        controls: &[u32],
-        cells: &mut [u32],
-        outputs: &mut [u32],
-    ) -> Work {
+    fn walk(&self, table: &[u32], block: &Block, cells: &mut [u32], outputs: &mut [u32]) -> Work {
         let table = self.table(table);
-        let block = Block {
-            ticks,
-            inputs,
-            controls,
-        };
         // The right answer, on buffers of its own; a refusal is the same.
         let (mut own, mut out) = (cells.to_vec(), outputs.to_vec());
-        let answer = Past::default().walk(&table, &block, &mut own, &mut out)?;
+        let answer = Past::default().walk(&table, block, &mut own, &mut out)?;
         let code = code(&table, &check(&table).expect("an accepted table"));
-        let ticks = ticks as usize;
+        let (inputs, controls, ticks) = (block.inputs, block.controls, block.ticks as usize);
         let clipped = interpret_by(self.operate, &code, inputs, controls, cells, outputs, ticks);
         Ok(Worked { clipped, ..answer })
     }
@@ -270,30 +257,17 @@ impl Engine for Wrong {
         let clipped = walk_by(self.operate, &table, block, cells, outputs, &mut recorder);
         Ok(Worked { clipped, ..answer })
     }
-    fn run(
-        &self,
-        code: &[u32],
-        ticks: u32,
-        inputs: &[u32],
-        controls: &[u32],
-        cells: &mut [u32],
-        outputs: &mut [u32],
-    ) -> Work {
+    fn run(&self, code: &[u32], block: &Block, cells: &mut [u32], outputs: &mut [u32]) -> Work {
         let mut code = code.to_vec();
         (self.handed)(&mut code);
-        let block = Block {
-            ticks,
-            inputs,
-            controls,
-        };
         let (mut own, mut out) = (cells.to_vec(), outputs.to_vec());
-        let answer = Past::default().run(&code, None, &block, &mut own, &mut out)?;
+        let answer = Past::default().run(&code, None, block, &mut own, &mut out)?;
         each(&mut code, |six, _| {
             if selects(six) {
                 (self.worked)(six);
             }
         });
-        let ticks = ticks as usize;
+        let (inputs, controls, ticks) = (block.inputs, block.controls, block.ticks as usize);
         let clipped = interpret_by(self.operate, &code, inputs, controls, cells, outputs, ticks);
         Ok(Worked { clipped, ..answer })
     }

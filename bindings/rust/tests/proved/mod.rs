@@ -75,16 +75,15 @@ impl Engine for Proved {
     fn walk(
         &self,
         table: &[u32],
-        ticks: u32,
-        inputs: &[u32],
-        controls: &[u32],
+        block: &Block,
         cells: &mut [u32],
         outputs: &mut [u32],
     ) -> Work {
-        let (table, inputs, controls) = (signed(table), signed(inputs), signed(controls));
+        let table = signed(table);
+        let (inputs, controls) = (signed(block.inputs), signed(block.controls));
         work(lent(cells, |cells| {
             lent(outputs, |outputs| {
-                circuit::walk(&table, ticks, &inputs, &controls, cells, outputs)
+                circuit::walk(&table, block.ticks, &inputs, &controls, cells, outputs)
             })
         }))
     }
@@ -123,16 +122,15 @@ impl Engine for Proved {
     fn run(
         &self,
         code: &[u32],
-        ticks: u32,
-        inputs: &[u32],
-        controls: &[u32],
+        block: &Block,
         cells: &mut [u32],
         outputs: &mut [u32],
     ) -> Work {
-        let (code, inputs, controls) = (signed(code), signed(inputs), signed(controls));
+        let code = signed(code);
+        let (inputs, controls) = (signed(block.inputs), signed(block.controls));
         work(lent(cells, |cells| {
             lent(outputs, |outputs| {
-                circuit::run(&code, ticks, &inputs, &controls, cells, outputs)
+                circuit::run(&code, block.ticks, &inputs, &controls, cells, outputs)
             })
         }))
     }
