@@ -2,7 +2,7 @@
 use Prim.Native.Nat.{ℕ, suc, _-_, _%_, _^_}
 use lib.IntN.{ℤ, pos, negsuc}
 use Rattle.refusal.specs.declared.Refusal.{Refusal}
-use Rattle.refusal.specs.declared.Refusal.the-variants.{MalformedLine, WrongNodeNumber, WrongNodeCount, UnknownKind, WrongField, WrongChild, NoArityRule, TooWide, LooseNode, TooManyInstructions, TooManyCells, ShortBuffer, WrongCode, WrongBlock, WrongProbes, EmptyFeedback}
+use Rattle.refusal.specs.declared.Refusal.the-variants.{MalformedLine, WrongNodeNumber, WrongNodeCount, UnknownKind, WrongField, WrongChild, NoArityRule, TooWide, LooseNode, TooManyInstructions, TooManyCells, ShortBuffer, WrongCode, WrongBlock, WrongProbes, EmptyFeedback, TooManyJoined}
 
 abbrev pub numberOf : Refusal → ℕ
 numberOf (MalformedLine p) = 1
@@ -21,6 +21,7 @@ numberOf WrongCode = 13
 numberOf WrongBlock = 14
 numberOf WrongProbes = 15
 numberOf (EmptyFeedback p) = 16
+numberOf TooManyJoined = 17
 
 abbrev pub noPlace : ℤ
 noPlace = negsuc 0
@@ -43,6 +44,7 @@ placeOf WrongCode = noPlace
 placeOf WrongBlock = noPlace
 placeOf WrongProbes = noPlace
 placeOf (EmptyFeedback p) = pos p
+placeOf TooManyJoined = noPlace
 
 -- the word that stands for a place: a line or node is one already
 abbrev pub placeWord : ℤ → ℕ

@@ -3,7 +3,7 @@ ghost use mathlib.Core.Path.{_≡_};
 ghost use Rattle.word.specs.Word.{low};
 ghost use Rattle.refusal.specs.Refusals.{numberOf, placeOf, placeWord};
 
-// The place of the first nine is a line of a column file or a node of a table, that of the last a node.
+// The place of the first nine is a line of a column file or a node of a table, that of 16 a node.
 pub enum Refusal {
     // 1: a line that is not 41 bytes, or a column that is no 32-bit number of the form
     MalformedLine(u32),
@@ -37,6 +37,8 @@ pub enum Refusal {
     WrongProbes,
     // 16: a recursion whose right side has neither inputs nor outputs
     EmptyFeedback(u32),
+    // 17: two tables to be joined whose nodes and the joining one are more than 512
+    TooManyJoined,
 }
 
 // -1, for a refusal without a place.
@@ -63,6 +65,7 @@ pub fn number(refusal: Refusal) -> u32
         Refusal::WrongBlock => 14,
         Refusal::WrongProbes => 15,
         Refusal::EmptyFeedback(_) => 16,
+        Refusal::TooManyJoined => 17,
     }
 }
 
@@ -87,6 +90,7 @@ fn carried(refusal: Refusal) -> u32
         Refusal::WrongBlock => NO_PLACE,
         Refusal::WrongProbes => NO_PLACE,
         Refusal::EmptyFeedback(at) => at,
+        Refusal::TooManyJoined => NO_PLACE,
     }
 }
 
