@@ -6,17 +6,19 @@ use mathlib.Core.Logic.{_↔_}
 use mathlib.Core.Bool.{Bool, true, false, false≢true}
 use mathlib.Core.List.{List}
 use native.Mathlib.Omega.{arith}
-use native.Mathlib.Decide.{decLe, decLt}
-use lib.Dec.{leb}
+use native.Mathlib.Decide.{decLe, decLt, ℕ-discrete}
+use lib.Dec.{leb, eqb}
 use borrow.Author.Tests.{leb-true, ltb-true, eqb-true, le-leb, le-ltb, lt-ltb, eq-eqb, ne-eqb}
+use Rattle.word.specs.Choice.{pick}
 use Rattle.word.specs.Operation.{operands}
+use Rattle.refusal.specs.Answer.{refusedAt}
 use Rattle.arity.specs.Tree.{ins, outs}
 use Rattle.arity.specs.Tree.Tree.{join}
 use Rattle.arity.specs.Table.{kindAt, firstAt, secondAt, nodes, tree, compositionOf}
 use Rattle.arity.specs.WellFormed.{Ruled}
-use Rattle.arity.specs.Check.{twoChildren, firstInRange, secondInRange, ruleFits, feedsBack, taken, refusalAt, loose, report, checked, IsAccepted}
-use Rattle.arity.specs.Formed.{Child, Children, Fields, Formed, Fitting}
-use Rattle.arity.specs.Acceptance.{Acceptance}
+use Rattle.arity.specs.Check.{twoChildren, firstInRange, secondInRange, ruleFits, feedsBack, taken, refusalAt, loose, report, uneven, checked, IsAccepted}
+use Rattle.arity.specs.Formed.{Child, Children, Fields, Formed, Fitting, Attached, Begun}
+use Rattle.arity.specs.Acceptance.{Acceptance, Accepted, LastDecides}
 use Rattle.arity.proofs.Exact.{ruled}
 use Rattle.arity.proofs.Tests.{and-left, and-right, known-false}
 use Rattle.arity.proofs.ByKind.{Alone, alone-of, two-of, rule-of, rule-other}
@@ -28,7 +30,7 @@ use Rattle.arity.proofs.Trees.View.{alone, two, one}
 use Rattle.arity.proofs.Right.{rights, kids}
 use Rattle.arity.proofs.Fitting.{fitting}
 use Rattle.arity.proofs.Loose.{none-loose}
-use Rattle.arity.proofs.Walk.{Passed, has-passed, even, passes}
+use Rattle.arity.proofs.Walk.{Passed, has-passed, even, stops, passes}
 
 -- the fields in range
 first-in-range : (k a b : ℕ) → 1 ≤ k → Fields k a b → firstInRange k a ≡ true
@@ -79,60 +81,74 @@ fields-of k a b g h =
         known-false (twoChildren k)
         (λ q. n (leb-true _ _ (and-left (leb 7 k) (leb k 11) q)) (leb-true _ _ (and-right (leb 7 k) (leb k 11) q)))
 
--- a table of the stated form, whose nodes fit: no node is refused, none is loose, so the check reports its counts
-module _ (t : List ℕ) (f : Formed t) (w : Fitting t) where
-  rule-fits : (i : ℕ) → i < nodes t → ruleFits t i ≡ true
+-- the first n nodes of a table, of the stated form, fit: none is refused
+module _ (t : List ℕ) (n : ℕ) (b : Begun t n) where
+  rule-fits : (i : ℕ) → i < n → ruleFits t i ≡ true
   unfolding ruleFits Ruled
-  rule-fits i h = go (view t (nodes t) (f .children) i h)
+  rule-fits i h = go (view t n (b .children) i h)
     where
       go : View t i → ruleFits t i ≡ true
-      go (alone a e) = rule-other (kindAt t i) (tree t (firstAt t i)) (tree t (secondAt t i)) (λ x y. omega arith)
-      go (two a b e) =
-          let u : Ruled (tree t i) = ruled (w i h .0 .2) .0 in
+      go (alone l e) = rule-other (kindAt t i) (tree t (firstAt t i)) (tree t (secondAt t i)) (λ x y. omega arith)
+      go (two l m e) =
+          let u : Ruled (tree t i) = ruled (b .fitting i h .0 .2) .0 in
           let v : Ruled (join i (compositionOf (kindAt t i)) (tree t (firstAt t i)) (tree t (secondAt t i))) = rw e at u in
-          rule-of (kindAt t i) _ _ (two-of (kindAt t i) a b) (v .2)
-      go (one a e) = rule-other (kindAt t i) (tree t (firstAt t i)) (tree t (secondAt t i)) (λ x y. omega arith)
+          rule-of (kindAt t i) _ _ (two-of (kindAt t i) l m) (v .2)
+      go (one l e) = rule-other (kindAt t i) (tree t (firstAt t i)) (tree t (secondAt t i)) (λ x y. omega arith)
 
-  feeds-back : (i : ℕ) → i < nodes t → feedsBack t i ≡ true
+  feeds-back : (i : ℕ) → i < n → feedsBack t i ≡ true
   unfolding feedsBack
-  feeds-back i h = go (view t (nodes t) (f .children) i h)
+  feeds-back i h = go (view t n (b .children) i h)
     where
       go : View t i → feedsBack t i ≡ true
-      go (alone a e) = feedback-other (kindAt t i) (tree t (secondAt t i)) (λ k. omega arith)
-      go (two a b e) =
-          let lower = f .children i h .second a b .lower in
-          feedback-of (kindAt t i) (tree t (secondAt t i)) (w (secondAt t i) (omega arith) .0 .2)
-          (λ k. w i h .1 i (tree t (firstAt t i)) (tree t (secondAt t i)) (rw k at e))
-      go (one a e) = feedback-other (kindAt t i) (tree t (secondAt t i)) (λ k. omega arith)
+      go (alone l e) = feedback-other (kindAt t i) (tree t (secondAt t i)) (λ k. omega arith)
+      go (two l m e) =
+          let lower = b .children i h .second l m .lower in
+          feedback-of (kindAt t i) (tree t (secondAt t i)) (b .fitting (secondAt t i) (omega arith) .0 .2)
+          (λ k. b .fitting i h .1 i (tree t (firstAt t i)) (tree t (secondAt t i)) (rw k at e))
+      go (one l e) = feedback-other (kindAt t i) (tree t (secondAt t i)) (λ k. omega arith)
 
-  not-refused : (i : ℕ) → i < nodes t → refusalAt t i ≡ 0
+  not-refused : (i : ℕ) → i < n → refusalAt t i ≡ 0
   unfolding refusalAt
   not-refused i h =
-      let r = ruled (w i h .0 .2) in
+      let r = ruled (b .fitting i h .0 .2) in
       rw (
-        le-leb 1 (kindAt t i) (f .kinds i h .0),
-        le-leb (kindAt t i) 12 (f .kinds i h .1),
-        first-in-range (kindAt t i) (firstAt t i) (secondAt t i) (f .kinds i h .0) (f .fields i h),
-        second-in-range (kindAt t i) (firstAt t i) (secondAt t i) (f .fields i h),
-        of-children t i (f .children i h),
+        le-leb 1 (kindAt t i) (b .kinds i h .0),
+        le-leb (kindAt t i) 12 (b .kinds i h .1),
+        first-in-range (kindAt t i) (firstAt t i) (secondAt t i) (b .kinds i h .0) (b .fields i h),
+        second-in-range (kindAt t i) (firstAt t i) (secondAt t i) (b .fields i h),
+        of-children t i (b .children i h),
         rule-fits i h,
         feeds-back i h,
-        le-leb (ins (tree t i)) 32 (rw (r .1) at (w i h .0 .3)),
-        le-leb (outs (tree t i)) 32 (rw (r .2) at (w i h .0 .4)),
+        le-leb (ins (tree t i)) 32 (rw (r .1) at (b .fitting i h .0 .3)),
+        le-leb (outs (tree t i)) 32 (rw (r .2) at (b .fitting i h .0 .4)),
       )
 
+-- a table in which each node but the last is a child: none is loose, so where no node is refused, the check reports its counts
+module _ (t : List ℕ) (w : Attached t) where
   not-loose : (p : ℕ) → loose t p ≡ false
   not-loose p = go (decLt (suc p) (nodes t))
     where
       go : Dec (suc p < nodes t) → loose t p ≡ false
-      go (yes h) = let a = f .attached p h in rw (lt-ltb (suc p) (nodes t) h, child-taken t (nodes t) (a .0) p (a .1) (a .2))
+      go (yes h) = let a = w p h in rw (lt-ltb (suc p) (nodes t) h, child-taken t (nodes t) (a .0) p (a .1) (a .2))
       go (no h) = rw (le-ltb (suc p) (nodes t) (omega arith))
 
-  complete : checked t ≡ report t
-  complete =
-      let l = f .least in
-      let q = f .whole in
-      passes t (even t (λ e. omega arith) (omega arith)) (f .most) not-refused ∙ rw (none-loose t not-loose, le-ltb (nodes t) (nodes t) (omega arith))
+  complete : uneven t ≡ false → nodes t ≤ 512 → ((i : ℕ) → i < nodes t → refusalAt t i ≡ 0) → checked t ≡ report t
+  complete e m f = passes t e m f ∙ rw (none-loose t not-loose, le-ltb (nodes t) (nodes t) (omega arith))
+
+-- where all nodes but the last fit, the last decides
+pub last-decides : LastDecides
+last-decides t n long few b w = go (ℕ-discrete (refusalAt t n) 0)
+  where
+    thirds : uneven t ≡ false
+    thirds = even t (λ e. omega arith) (omega arith)
+
+    all : refusalAt t n ≡ 0 → (i : ℕ) → i < nodes t → Dec (i < n) → refusalAt t i ≡ 0
+    all z i h (yes l) = not-refused t n b i l
+    all z i h (no l) = let q : i ≡ n = omega arith in rw q z
+
+    go : Dec (refusalAt t n ≡ 0) → checked t ≡ pick (eqb (refusalAt t n) 0) (report t) (refusedAt (refusalAt t n) n)
+    go (yes z) = complete t (w z) thirds (omega arith) (λ i h. all z i h (decLt i n)) ∙ rw (eq-eqb (refusalAt t n) 0 z)
+    go (no z) = stops t thirds (omega arith) n (omega arith) (not-refused t n b) z ∙ rw (ne-eqb (refusalAt t n) 0 z)
 
 -- an accepted table is of the form
 module _ (t : List ℕ) (x : Passed t) where
@@ -156,8 +172,20 @@ module _ (t : List ℕ) (x : Passed t) where
       }
 
 -- exactly the tables of the stated form are accepted whose nodes fit
-accepted : (t : List ℕ) → IsAccepted t ↔ (Formed t × Fitting t)
-accepted t = (λ (ks, e). let x = has-passed t ks e .0 in (formed t x, fitting t (nodes t) (x .right)), λ (f, w). (_, complete t f w))
+begun : (t : List ℕ) → Formed t → Fitting t → Begun t (nodes t)
+begun t f w = record { kinds = f .kinds; fields = f .fields; children = f .children; fitting = w }
+
+accepts : (t : List ℕ) → Formed t → Fitting t → checked t ≡ report t
+accepts t f w =
+    let l = f .least in
+    let q = f .whole in
+    complete t (f .attached) (even t (λ e. omega arith) (omega arith)) (f .most) (not-refused t (nodes t) (begun t f w))
+
+pub accepted : Accepted
+accepted t = (
+  λ (ks, e). let x = has-passed t ks e .0 in (formed t x, fitting t (nodes t) (x .right)),
+  λ (f, w). (_, accepts t f w),
+)
 
 -- so a table of the form is accepted exactly where each of its nodes does
 pub acceptance : Acceptance

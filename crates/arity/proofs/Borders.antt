@@ -1,12 +1,12 @@
 -- The theorems at their borders, spelled out: a premise that asked for more, or a conclusion that said less, would fail here.
 use Prim.Native.Nat.{ℕ, zero, suc, _+_, _*_, _≤_, _<_}
-use mathlib.Core.Path.{_≡_, refl}
+use mathlib.Core.Path.{_≡_, refl, _∙_}
 use mathlib.Core.Bool.{true, false}
 use mathlib.Core.List.{List, [], _∷_, _++_}
 use native.Mathlib.Omega.{arith}
 use lib.Dec.{lit<, lit≤}
 use lib.ListN.{length}
-use borrow.Author.Tests.{le-leb}
+use borrow.Author.Tests.{le-leb, ne-eqb}
 use Rattle.word.specs.Operation.{operands}
 use Rattle.word.specs.Tick.{zeros, Words}
 use Rattle.word.proofs.Each.{words-by}
@@ -20,15 +20,15 @@ use Rattle.arity.specs.Rules.{Arity}
 use Rattle.arity.specs.WellFormed.{Ruled, WellFormed}
 use Rattle.arity.specs.Nodes.{Complete, subtree, sumTo, cellsBefore}
 use Rattle.arity.specs.Lowest.{lowest}
-use Rattle.arity.specs.Check.{rule, checked, refusalAt, childrenFree, taken, ruleFits, feedsBack, loose, firstLoose}
-use Rattle.arity.specs.Formed.{Children, Fields, Formed, Counted, FeedsBack, Fitted, Fitting}
+use Rattle.arity.specs.Check.{rule, checked, refusalAt, childrenFree, taken, ruleFits, feedsBack, loose, firstLoose, IsAccepted}
+use Rattle.arity.specs.Formed.{Children, Fields, Formed, Counted, FeedsBack, Fitted, Fitting, Begun}
 use Rattle.arity.proofs.Exact.{exact}
 use Rattle.arity.proofs.Feedback.{leaf-feeds}
 use Rattle.arity.proofs.Loose.{first-loose}
 use Rattle.arity.proofs.RefusedLoose.{refused-loose}
 use Rattle.arity.proofs.RefusedFeedback.{refused-feedback}
-use Rattle.arity.proofs.Acceptance.{acceptance}
-use Rattle.arity.proofs.Promise.{promise}
+use Rattle.arity.proofs.Acceptance.{acceptance, accepted, last-decides}
+use Rattle.arity.proofs.Promise.{promise, whole}
 
 -- the published rules and the counts, each from the other
 only-counted : (x : Tree) (a b : ℕ) → Arity x a b → Ruled x × (a ≡ ins x) × (b ≡ outs x)
@@ -200,3 +200,11 @@ refused-at-4 t e = let f = refused-feedback t 4 e in (f .left, f .right, f .recu
 
 below-4 : (t : List ℕ) → checked t ≡ refusedAt 16 4 → Counted (tree t 3) × FeedsBack (tree t 3)
 below-4 t e = refused-feedback t 4 e .first 3 (omega arith)
+
+-- the last of 512 nodes decides
+last-of-512 : (t : List ℕ) → length t ≡ 1536 → Begun t 511 → (refusalAt t 511 ≡ 0 → ⊥) → checked t ≡ refusedAt (refusalAt t 511) 511
+last-of-512 t e b n = last-decides t 511 e (omega arith) b (λ z. absurd (n z)) ∙ rw (ne-eqb (refusalAt t 511) 0 n)
+
+-- each accepted table is of the stated form, and has each node once
+accepted-formed : (t : List ℕ) → IsAccepted t → Formed t × Complete (nodes t) (circuit t)
+accepted-formed t a = (accepted t .0 a .0, whole t a)

@@ -3,10 +3,10 @@ pub mod Sizes
 pub mod Times
 pub mod Exact
 mod Tests
-mod ByKind
+pub mod ByKind
 mod Feedback
-mod Taken
-mod Trees
+pub mod Taken
+pub mod Trees
 mod Right
 mod Once
 mod Fitting

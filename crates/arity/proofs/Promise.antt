@@ -17,7 +17,7 @@ use Rattle.arity.specs.Nodes.{Numbered, Complete, cellsBefore}
 use Rattle.arity.specs.Check.{ruleFits, feedsBack, report, cellsOf, firstCell}
 use Rattle.arity.specs.Formed.{Child, Children}
 use Rattle.arity.specs.Survey.{rowOf, rowAt, putRow, filled}
-use Rattle.arity.specs.Promise.{Node, Promised, Recounted, Rows}
+use Rattle.arity.specs.Promise.{Node, Promised, Recounted, Whole, Rows}
 use Rattle.arity.specs.declared.rows.Row.{Row}
 use Rattle.arity.proofs.Sizes.{cells-before, cells-after-node}
 use Rattle.arity.proofs.ByKind.{alone-of, two-of, fits-of, known-of}
@@ -113,6 +113,9 @@ module _ (t : List ℕ) (x : Passed t) where
           cells = rw q at (cells-after-node (circuit t) i (nodes t) h);
           part = q;
         }
+
+pub whole : (t : List ℕ) → Whole t
+whole t (ks, e) = whole-tree t (has-passed t ks e .0)
 
 pub recounted : (t : List ℕ) → Recounted t
 recounted t (ks, e) =

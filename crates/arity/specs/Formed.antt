@@ -35,6 +35,10 @@ pub record Fields (kind first second : ℕ) : Type 0 where
   pub cut : kind ≡ 6 → first ≡ 0
   pub unused : (7 ≤ kind → kind ≤ 11 → ⊥) → second ≡ 0
 
+-- each node but the last is a child
+abbrev pub Attached : List ℕ → Type 0
+Attached table = (j : ℕ) → suc j < nodes table → (p : ℕ) × (p < nodes table) × Child table p j
+
 -- a table of the stated form: what the section "The node table" says of it, but for the arities
 pub record Formed (table : List ℕ) : Type 0 where
   pub whole : 3 * nodes table ≡ length table
@@ -43,7 +47,7 @@ pub record Formed (table : List ℕ) : Type 0 where
   pub kinds : (i : ℕ) → i < nodes table → (1 ≤ kindAt table i) × (kindAt table i ≤ 12)
   pub fields : (i : ℕ) → i < nodes table → Fields (kindAt table i) (firstAt table i) (secondAt table i)
   pub children : (i : ℕ) → i < nodes table → Children table i
-  pub attached : (j : ℕ) → suc j < nodes table → (p : ℕ) × (p < nodes table) × Child table p j
+  pub attached : Attached table
 
 -- the published rules count the inputs and outputs of a tree, none above 32
 abbrev pub Counted : Tree → Type 0
@@ -59,3 +63,10 @@ Fitted x = Counted x × FeedsBack x
 
 abbrev pub Fitting : List ℕ → Type 0
 Fitting table = (i : ℕ) → i < nodes table → Fitted (tree table i)
+
+-- the first n nodes of a table are of the stated form, and fit
+pub record Begun (table : List ℕ) (n : ℕ) : Type 0 where
+  pub kinds : (i : ℕ) → i < n → (1 ≤ kindAt table i) × (kindAt table i ≤ 12)
+  pub fields : (i : ℕ) → i < n → Fields (kindAt table i) (firstAt table i) (secondAt table i)
+  pub children : (i : ℕ) → i < n → Children table i
+  pub fitting : (i : ℕ) → i < n → Fitted (tree table i)

@@ -1,7 +1,8 @@
 -- What crates above this one use of the check:
 -- `promise`, what holds of a table that it accepts; `rows`, what holds of the shape that its survey leaves; `recounted`, that the counts of an accepted
--- table are those of its circuit. Beside these they cite the definitions that the three are made of, `checked` among them, as the refusals of the table
--- come first in the results of walker, translator and exported check.
+-- table are those of its circuit; `whole`, that its circuit has each node once. Beside these they cite the definitions that the four are made of, `checked`
+-- among them, as the refusals of the table come first in the results of walker, translator and exported check. A crate that makes tables of others cites
+-- `accepted` and `last-decides` (Acceptance) too, and which tree a node is (proofs/Trees).
 use Prim.Native.Nat.{ℕ, _+_, _*_, _≤_, _<_}
 use mathlib.Core.Path.{_≡_}
 use mathlib.Core.List.{List, [], _∷_}
@@ -76,6 +77,10 @@ Promised t a b c d = checked t ≡ counts (a ∷ b ∷ c ∷ d ∷ []) → Words
 -- the counts of an accepted table are those of its circuit
 abbrev pub Recounted : List ℕ → Type 0
 Recounted t = IsAccepted t → checked t ≡ counts (ins (circuit t) ∷ outs (circuit t) ∷ need (circuit t) ∷ cellsBefore (circuit t) (nodes t) ∷ [])
+
+-- the circuit of an accepted table has each of its nodes once
+abbrev pub Whole : List ℕ → Type 0
+Whole t = IsAccepted t → Complete (nodes t) (circuit t)
 
 -- the row of node i in the shape that a survey leaves of an accepted table
 pub record Shaped (table shape : List ℕ) (i : ℕ) : Type 0 where
