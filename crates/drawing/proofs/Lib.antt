@@ -1,0 +1,10 @@
+pub mod Numbers
+pub mod Same
+pub mod Placed
+pub mod Closed
+pub mod Closing
+pub mod Totals
+pub mod Accepted
+pub mod Renumbered
+pub mod Joined
+pub mod Borders

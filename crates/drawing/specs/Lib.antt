@@ -1,0 +1,4 @@
+pub mod Drawing
+pub mod Numbering
+pub mod Joined
+pub mod Laws

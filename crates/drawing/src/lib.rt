@@ -1,0 +1,1 @@
+// What a table draws, whatever its node numbers: definitions and laws, no code.
