@@ -13,9 +13,7 @@ const NODE_COLUMN: usize = 4;
 
 const LINE_BYTES: usize = NODE_COLUMN + 3 * COLUMN + 1;
 
-// The numbers of the largest table, and the bytes of a file that are enough: its lines, and a byte of one too many.
-pub const TABLE_NUMBERS: usize = 3 * NODES;
-
+// The bytes of a file that are enough: the lines of the largest, and a byte of one too many.
 pub const ENOUGH_BYTES: usize = LINE_BYTES * NODES + 1;
 
 // What the reader answers: the count of nodes, or a refusal.

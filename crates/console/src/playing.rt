@@ -14,7 +14,6 @@ use crate::messages::print_malformed;
 use crate::messages::print_refusal;
 use column::ENOUGH_BYTES;
 use column::ReadAnswer;
-use column::TABLE_NUMBERS;
 use flat::format::CODE_NUMBERS;
 use flat::format::INPUTS;
 use flat::format::OUTPUTS;
@@ -27,6 +26,7 @@ use translator::TranslateAnswer;
 use word::index;
 use word::limits::CELLS;
 use word::limits::CONTROLS;
+use word::limits::TABLE_NUMBERS;
 
 // Reads until the empty line behind the circuit is there, the input ends, or the file has a 513th line; gives where the
 // bytes that are held end.

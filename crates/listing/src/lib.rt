@@ -1,6 +1,5 @@
 // The translator's print: the code of a column file as text, or number and place of the refusal.
 use column::ReadAnswer;
-use column::TABLE_NUMBERS;
 use flat::format::CODE_NUMBERS;
 use flat::format::HEADER;
 use flat::format::INSTRUCTIONS;
@@ -13,6 +12,7 @@ use translator::TranslateAnswer;
 use word::index;
 use word::limits::BEAM;
 use word::limits::MOST_INSTRUCTIONS;
+use word::limits::TABLE_NUMBERS;
 ghost use Prim.Native.Nat.{_+_, _≤_};
 ghost use lib.ListN.{length};
 ghost use Rattle.refusal.specs.Refusals.{numberOf, placeOf};

@@ -22,6 +22,9 @@ pub const MOST_PROBES: u32 = 16;
 // The same as the sizes of lists.
 pub const NODES: usize = MOST_NODES as usize;
 
+// The numbers of the largest table, three to a node.
+pub const TABLE_NUMBERS: usize = 3 * NODES;
+
 pub const BEAM: usize = WIDEST as usize;
 
 pub const CONTROLS: usize = SLOTS as usize;

@@ -1,0 +1,4 @@
+mod Copying
+mod Joining
+pub mod Delivers
+pub mod Borders
