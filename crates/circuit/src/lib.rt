@@ -5,6 +5,7 @@ use cells::LoadAnswer;
 use column::ReadAnswer;
 use column::WriteAnswer;
 use flat::RunAnswer;
+use joining::JoinAnswer;
 use refusal::Refusal;
 use translator::TranslateAnswer;
 use walker::WalkAnswer;
@@ -15,6 +16,7 @@ ghost use Rattle.refusal.specs.Answer.{refusalOf};
 ghost use Rattle.cells.specs.Block.{withReport, reportOf};
 ghost use Rattle.cells.specs.Load.{loaded};
 ghost use Rattle.column.specs.File.{reading, writing};
+ghost use Rattle.joining.specs.Join.{joinedTables};
 ghost use Rattle.walker.specs.Walk.{answerOf, walkedTable, probedTable};
 ghost use Rattle.translator.specs.Translate.{translatedTable};
 ghost use Rattle.flat.specs.Run.{ran};
@@ -84,6 +86,19 @@ pub extern "C" fn circuit_write(table: &[u32], file: &mut [u8]) -> u64
     match answer {
         WriteAnswer::Refused(r) => return refused(r),
         WriteAnswer::Bytes(n) => return n as u64,
+    }
+}
+
+// Two tables joined by a node of a kind from 7 to 11.
+#[no_mangle]
+pub extern "C" fn circuit_join(kind: u32, first: &[u32], second: &[u32], joined: &mut [u32]) -> u64
+    ensures answer { λ r. ⌜ r ≡ encoded (joinedTables kind (now (first .entry)) (now (second .entry)) (now (joined .entry)) .answer) ⌝ }
+    ensures joined { λ _. ⌜ now (joined .exit) ≡ joinedTables kind (now (first .entry)) (now (second .entry)) (now (joined .entry)) .buffer ⌝ }
+{
+    let answer = joining::join(kind, first, second, joined);
+    match answer {
+        JoinAnswer::Refused(r) => return refused(r),
+        JoinAnswer::Numbers(n) => return n as u64,
     }
 }
 

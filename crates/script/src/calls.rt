@@ -5,6 +5,7 @@ use cells::LoadAnswer;
 use column::ReadAnswer;
 use column::WriteAnswer;
 use flat::RunAnswer;
+use joining::JoinAnswer;
 use listing::PRINT_BYTES;
 use translator::TranslateAnswer;
 use walker::WalkAnswer;
@@ -48,6 +49,22 @@ pub fn read_file(file: &[u8], buffer: &mut [u32]) -> usize {
             if n <= MOST_NODES {
                 count = 3 * index(n);
             }
+        }
+    }
+    show_buffer(buffer);
+    count
+}
+
+// Joins into a buffer; gives how many numbers were written.
+pub fn join_tables(kind: u32, first: &[u32], second: &[u32], buffer: &mut [u32]) -> usize {
+    show::text(b"join");
+    let answer = joining::join(kind, first, second, buffer);
+    let mut count: usize = 0;
+    match answer {
+        JoinAnswer::Refused(r) => show::refused(r),
+        JoinAnswer::Numbers(n) => {
+            show::number(n);
+            count = index(n);
         }
     }
     show_buffer(buffer);

@@ -15,9 +15,13 @@ ghost use Prim.Native.Nat.{_≤_};
 // What a lent buffer of numbers holds before the call.
 pub(crate) const UNTOUCHED: u32 = 9;
 
+// Where the second table begins in the buffer of the tables; each has room for so many numbers.
+pub(crate) const SECOND: usize = 2000;
+
 // How much of each buffer is set.
 pub(crate) struct Sizes {
     pub table: usize,
+    pub second: usize,
     pub code: usize,
     pub inputs: usize,
     pub controls: usize,
@@ -31,11 +35,22 @@ struct Step {
     taken: usize,
 }
 
+// A list into the part of the tables from a number to another; gives its size.
+fn set_table(line: &[u8], word: usize, from: usize, to: usize, tables: &mut [u32]) -> usize {
+    if to < from {
+        return 0;
+    }
+    if tables.len() < to {
+        return 0;
+    }
+    read_list(line, word, &mut tables[from..to])
+}
+
 // The lines that set numbers.
 fn set_numbers(
     line: &[u8],
     sizes: Sizes,
-    table: &mut [u32],
+    tables: &mut [u32],
     code: &mut [u32],
     inputs: &mut [u32],
     controls: &mut [u32],
@@ -44,7 +59,11 @@ fn set_numbers(
 ) -> Sizes {
     let mut s = sizes;
     if is(line, b"table") {
-        s.table = read_list(line, 5, table);
+        s.table = set_table(line, 5, 0, SECOND, tables);
+        return s;
+    }
+    if is(line, b"second") {
+        s.second = set_table(line, 6, SECOND, 2 * SECOND, tables);
         return s;
     }
     if is(line, b"code") {
@@ -87,28 +106,33 @@ fn set_file(line: &[u8], rest: &[u8], file: &mut [u8]) -> usize {
 fn play_table(
     line: &[u8],
     sizes: Sizes,
-    table: &mut [u32],
+    tables: &mut [u32],
     code: &mut [u32],
     file: &mut [u8],
     buffer: &mut [u32],
 ) -> Sizes {
     let mut s = sizes;
     if is(line, b"check") {
-        lines::check_line(table, s.table);
+        lines::check_line(tables, s.table);
         return s;
     }
     if is(line, b"read") {
-        let count = lines::read_line(line, s, file, table, buffer);
+        let count = lines::read_line(line, s, file, tables, buffer);
+        s.table = count;
+        return s;
+    }
+    if is(line, b"join") {
+        let count = lines::join_line(line, s, tables, buffer);
         s.table = count;
         return s;
     }
     if is(line, b"write") {
-        let count = lines::write_line(line, s, table, file);
+        let count = lines::write_line(line, s, tables, file);
         s.file = count;
         return s;
     }
     if is(line, b"translate") {
-        let count = lines::translate_line(line, s, table, code, buffer);
+        let count = lines::translate_line(line, s, tables, code, buffer);
         s.code = count;
         return s;
     }
@@ -229,7 +253,7 @@ fn play_line(
     line: &[u8],
     rest: &[u8],
     sizes: Sizes,
-    table: &mut [u32],
+    tables: &mut [u32],
     code: &mut [u32],
     inputs: &mut [u32],
     controls: &mut [u32],
@@ -241,13 +265,13 @@ fn play_line(
     buffer: &mut [u32],
 ) -> Step {
     play_memory(line, walked, ran);
-    let set = set_numbers(line, sizes, table, code, inputs, controls, probes, latest);
-    let s = play_table(line, set, table, code, file, buffer);
-    play_block(line, s, table, code, inputs, controls, walked, ran, buffer);
+    let set = set_numbers(line, sizes, tables, code, inputs, controls, probes, latest);
+    let s = play_table(line, set, tables, code, file, buffer);
+    play_block(line, s, tables, code, inputs, controls, walked, ran, buffer);
     probed::play_probed(
         line,
         s,
-        table,
+        tables,
         probes,
         inputs,
         controls,
@@ -273,7 +297,7 @@ fn behind(from: usize, count: usize, end: usize) -> usize
 fn play_piece(
     piece: &[u8],
     sizes: Sizes,
-    table: &mut [u32],
+    tables: &mut [u32],
     code: &mut [u32],
     inputs: &mut [u32],
     controls: &mut [u32],
@@ -296,7 +320,7 @@ fn play_piece(
             &piece[at..end],
             &piece[next..],
             s,
-            table,
+            tables,
             code,
             inputs,
             controls,
@@ -316,7 +340,7 @@ fn play_piece(
 // The script on standard input, piece by piece.
 fn play_pieces(
     piece: &mut [u8],
-    table: &mut [u32],
+    tables: &mut [u32],
     code: &mut [u32],
     inputs: &mut [u32],
     controls: &mut [u32],
@@ -329,6 +353,7 @@ fn play_pieces(
 ) {
     let mut sizes = Sizes {
         table: 0,
+        second: 0,
         code: 0,
         inputs: 0,
         controls: 0,
@@ -344,7 +369,7 @@ fn play_pieces(
         sizes = play_piece(
             &piece[..count],
             sizes,
-            table,
+            tables,
             code,
             inputs,
             controls,
@@ -362,7 +387,7 @@ fn play_pieces(
 // Plays the script on standard input.
 pub fn play() {
     let mut piece = [0u8; 65536];
-    let mut table = [0u32; 2000];
+    let mut tables = [0u32; 4000];
     let mut code = [0u32; 13000];
     let mut inputs = [0u32; 131200];
     let mut controls = [0u32; 32];
@@ -374,7 +399,7 @@ pub fn play() {
     let mut buffer = [0u32; 131200];
     play_pieces(
         &mut piece,
-        &mut table,
+        &mut tables,
         &mut code,
         &mut inputs,
         &mut controls,

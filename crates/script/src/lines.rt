@@ -1,4 +1,5 @@
 // The lines of a script that make a call: their numbers say how much of the buffers is lent.
+use crate::SECOND;
 use crate::Sizes;
 use crate::UNTOUCHED;
 use crate::calls;
@@ -74,6 +75,40 @@ pub fn read_line(
     }
     copy(buffer, table, read);
     read
+}
+
+// `join K L`; gives the size of the table.
+pub fn join_line(line: &[u8], sizes: Sizes, tables: &mut [u32], buffer: &mut [u32]) -> usize {
+    let mut numbers = [0u32; 2];
+    read_list(line, 4, &mut numbers);
+    let count = index(numbers[1]);
+    put_run(buffer, 0, UNTOUCHED, numbers[1]);
+    let first = sizes.table;
+    let second = sizes.second;
+    if SECOND < second {
+        return first;
+    }
+    let end = SECOND + second;
+    if tables.len() < first {
+        return first;
+    }
+    if tables.len() < end {
+        return first;
+    }
+    if buffer.len() < count {
+        return first;
+    }
+    let written = calls::join_tables(
+        numbers[0],
+        &tables[0..first],
+        &tables[SECOND..end],
+        &mut buffer[0..count],
+    );
+    if written == 0 {
+        return first;
+    }
+    copy(buffer, tables, written);
+    written
 }
 
 // `write L` into the first bytes of a buffer; gives the size of the file.

@@ -13,7 +13,7 @@ slice-aggregate-play-pieces : tie.Need-slice-aggregate-play-pieces
 slice-aggregate-play-pieces c = zeros-length 65536
 
 slice-aggregate-play-pieces-2 : tie.Need-slice-aggregate-play-pieces-2
-slice-aggregate-play-pieces-2 c = zeros-length 2000
+slice-aggregate-play-pieces-2 c = zeros-length 4000
 
 slice-aggregate-play-pieces-3 : tie.Need-slice-aggregate-play-pieces-3
 slice-aggregate-play-pieces-3 c = zeros-length 13000
