@@ -13,7 +13,7 @@ fn cut() -> Tree {
 
 /// A part with "neither inputs nor outputs", in each form that has none: compositions, so many deep
 /// at most.
-fn nothing(random: &mut Random, depth: usize) -> Tree {
+pub fn nothing(random: &mut Random, depth: usize) -> Tree {
     let many = 1 + random.below(3);
     match random.below(if depth == 0 { 6 } else { 10 }) {
         0 | 1 => pair(7, source(random), cut()),

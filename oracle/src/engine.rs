@@ -68,6 +68,14 @@ pub trait Engine {
         cells: &mut [u32],
         outputs: &mut [u32],
     ) -> Result<Worked, Refusal>;
+    /// E8: "From two accepted tables and a composition of kind 7 to 11, make one table".
+    fn join(
+        &self,
+        kind: u32,
+        first: &[u32],
+        second: &[u32],
+        joined: &mut [u32],
+    ) -> Result<u32, Refusal>;
 }
 
 impl Refusal {

@@ -6,6 +6,7 @@ use crate::bad_tables::bad_table_case;
 use crate::clip_cases::clipped_case;
 use crate::empty_feedback::feedback_case;
 use crate::good_cases::{good_case, long_case, usual_size};
+use crate::join_cases::join_case;
 use crate::limit_cases::{limit_case, nodes_case, operations_case};
 use crate::probe_cases::probed_case;
 use crate::random::Random;
@@ -15,16 +16,22 @@ use crate::script::Command;
 /// The commands of so many cases.
 pub fn generate(seed: u64, cases: usize) -> Vec<Command> {
     let mut random = Random::new(seed);
+    // Joins have random numbers of their own, by which no other case is another.
+    let mut for_joins = Random::new(!seed);
+    let mut others = 0..;
     let mut commands = Vec::new();
     for number in 0..cases {
-        let (kind, case) = one(&mut random, number);
+        let (kind, case) = match number % 15 == 7 {
+            true => ("joins", join_case(&mut for_joins)),
+            false => one(&mut random, others.next().expect("a number")),
+        };
         commands.push(Command::Title(format!("case {number}: {kind}")));
         commands.extend(case);
     }
     commands
 }
 
-/// A case of the default mix.
+/// A case of the default mix that has no join.
 fn one(random: &mut Random, number: usize) -> (&'static str, Vec<Command>) {
     if number % 1000 == 500 {
         return ("many nodes", nodes_case(random, number % 2000 == 500));

@@ -151,10 +151,15 @@ pub fn more(random: &mut Random) -> usize {
     }
 }
 
-/// The beginning of a case: garbage in the memories, table and code, perhaps refused calls.
+/// The beginning of a case: garbage in the memories, and a table.
 pub fn begin(random: &mut Random, circuit: &Circuit, case: &mut Vec<Command>) {
     case.push(Command::Memory(sample(random) as u32));
     case.push(Command::Table(circuit.table.clone()));
+    ready(random, circuit, case);
+}
+
+/// What a table needs before its blocks: controls, its code, a load; perhaps refused calls.
+pub fn ready(random: &mut Random, circuit: &Circuit, case: &mut Vec<Command>) {
     case.push(Command::Controls(controls(random, circuit)));
     if random.percent(40) {
         case.push(Command::Check);

@@ -17,6 +17,8 @@ pub mod flat;
 pub mod generate;
 pub mod good_cases;
 pub mod graph;
+pub mod join;
+pub mod join_cases;
 pub mod limit_cases;
 pub mod meaning;
 pub mod parse;

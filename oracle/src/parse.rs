@@ -19,6 +19,7 @@ fn command(name: &str, rest: &str) -> Command {
     let size = |i: usize| all[i] as usize;
     match name {
         "table" => Command::Table(all),
+        "second" => Command::Second(all),
         "code" => Command::Code(all),
         "inputs" => Command::Inputs(all),
         "controls" => Command::Controls(all),
@@ -27,6 +28,7 @@ fn command(name: &str, rest: &str) -> Command {
         "read" => Command::Read(size(0)),
         "write" => Command::Write(size(0)),
         "translate" => Command::Translate(size(0)),
+        "join" => Command::Join(all[0], size(1)),
         "print" => Command::Print,
         "play" => Command::Play,
         "load" => Command::Load(all[0], size(1)),

@@ -6,6 +6,7 @@ use crate::column;
 use crate::engine::{Block, Counts, Engine, Probes, Refusal, Worked};
 use crate::entries::Past;
 use crate::flat::{HEADER, MOST_CODE, WIDTH};
+use crate::join;
 use crate::programs::played;
 use crate::script::{list, Command, Lent};
 use crate::translate;
@@ -36,6 +37,7 @@ pub trait Actor {
         probes: &mut Probes,
     ) -> Work;
     fn run(&mut self, code: &[u32], block: &Block, cells: &mut [u32], out: &mut [u32]) -> Work;
+    fn join(&mut self, kind: u32, first: &[u32], second: &[u32], joined: &mut [u32]) -> Answer;
     /// Both memories were set by the script.
     fn forget(&mut self) {}
 }
@@ -74,6 +76,9 @@ impl<E: Engine> Actor for Live<'_, E> {
     }
     fn run(&mut self, code: &[u32], block: &Block, cells: &mut [u32], out: &mut [u32]) -> Work {
         self.0.run(code, block, cells, out)
+    }
+    fn join(&mut self, kind: u32, first: &[u32], second: &[u32], joined: &mut [u32]) -> Answer {
+        self.0.join(kind, first, second, joined)
     }
 }
 
@@ -121,6 +126,9 @@ impl Actor for Oracle {
         let table = known.map(|(table, _)| table.as_slice());
         self.pasts[1].run(code, table, block, cells, out)
     }
+    fn join(&mut self, kind: u32, first: &[u32], second: &[u32], joined: &mut [u32]) -> Answer {
+        join::join(kind, first, second, joined)
+    }
     fn forget(&mut self) {
         self.pasts.iter_mut().for_each(Past::forget);
         self.translated.clear();
@@ -129,6 +137,7 @@ impl Actor for Oracle {
 
 struct Scene {
     table: Vec<u32>,
+    second: Vec<u32>,
     code: Vec<u32>,
     inputs: Vec<u32>,
     controls: Vec<u32>,
@@ -142,6 +151,7 @@ struct Scene {
 pub fn perform(commands: &[Command], actor: &mut impl Actor) -> String {
     let mut scene = Scene {
         table: vec![],
+        second: vec![],
         code: vec![],
         inputs: vec![],
         controls: vec![],
@@ -183,6 +193,7 @@ impl Scene {
     fn set(&mut self, command: &Command, actor: &mut impl Actor) -> bool {
         match command {
             Command::Table(numbers) => self.table.clone_from(numbers),
+            Command::Second(numbers) => self.second.clone_from(numbers),
             Command::Code(numbers) => self.code.clone_from(numbers),
             Command::Inputs(numbers) => self.inputs.clone_from(numbers),
             Command::Controls(numbers) => self.controls.clone_from(numbers),
@@ -204,6 +215,7 @@ impl Scene {
             Command::Read(length) => self.read(length, actor),
             Command::Write(length) => self.write(length, actor),
             Command::Translate(length) => self.translate(length, actor),
+            Command::Join(kind, length) => self.join(kind, length, actor),
             Command::Print => self.print(actor),
             Command::Play => played(&self.file),
             Command::Load(named, lent) => {
@@ -272,6 +284,15 @@ impl Scene {
             self.code = buffer[..numbers as usize].to_vec();
         }
         format!("translate {} |{}\n", answer(&translated), list(&buffer))
+    }
+
+    fn join(&mut self, kind: u32, length: usize, actor: &mut impl Actor) -> String {
+        let mut buffer = vec![9; length];
+        let joined = actor.join(kind, &self.table, &self.second, &mut buffer);
+        if let Ok(numbers) = joined {
+            self.table = buffer[..numbers as usize].to_vec();
+        }
+        format!("join {} |{}\n", answer(&joined), list(&buffer))
     }
 
     fn probed(&mut self, lent: &Lent, actor: &mut impl Actor) -> String {

@@ -10,6 +10,8 @@ pub const PIECE: usize = 65536;
 pub enum Command {
     Title(String),
     Table(Vec<u32>),
+    /// The second table of joins.
+    Second(Vec<u32>),
     Code(Vec<u32>),
     Inputs(Vec<u32>),
     Controls(Vec<u32>),
@@ -19,6 +21,8 @@ pub enum Command {
     Read(usize),
     Write(usize),
     Translate(usize),
+    /// The kind of the joining node, the length of the buffer.
+    Join(u32, usize),
     Print,
     Play,
     /// The named count of cells, the count of lent ones.
@@ -86,6 +90,7 @@ fn render_one(command: &Command) -> Vec<u8> {
     let line = match command {
         Command::Title(title) => format!("# {title}\n"),
         Command::Table(numbers) => format!("table{}\n", list(numbers)),
+        Command::Second(numbers) => format!("second{}\n", list(numbers)),
         Command::Code(numbers) => format!("code{}\n", list(numbers)),
         Command::Inputs(numbers) => format!("inputs{}\n", list(numbers)),
         Command::Controls(numbers) => format!("controls{}\n", list(numbers)),
@@ -95,6 +100,7 @@ fn render_one(command: &Command) -> Vec<u8> {
         Command::Read(length) => format!("read {length}\n"),
         Command::Write(length) => format!("write {length}\n"),
         Command::Translate(length) => format!("translate {length}\n"),
+        Command::Join(kind, length) => format!("join {} {length}\n", *kind as i32),
         Command::Print => "print\n".to_string(),
         Command::Play => "play\n".to_string(),
         Command::Load(named, lent) => format!("load {} {lent}\n", *named as i32),

@@ -1,11 +1,13 @@
 //! What the default mix holds: every refusal, every kind, bodies that demands reach, tables with
-//! several loose nodes, delays that are clipped, and recursions that feed nothing back.
+//! several loose nodes, delays that are clipped, recursions that feed nothing back, and joins.
 
 mod flat;
 mod found;
 mod watched;
 
 use found::feedback::Feedback;
+use found::joined;
+use found::joins::Joins;
 use oracle::arity::{check, Node};
 use oracle::column::parse;
 use oracle::generate::generate;
@@ -20,7 +22,7 @@ use watched::clips::Clips;
 #[test]
 fn refusals() {
     let printed = expected(&generate(1, 3000));
-    for number in 1..=16 {
+    for number in 1..=17 {
         let answer = format!("refused {number} ");
         let times = printed.matches(&answer).count();
         println!("refusal {number}: {times}");
@@ -125,10 +127,15 @@ impl Seen {
 fn kinds() {
     let mut seen = Seen::default();
     let (mut table, mut inputs, mut controls) = (vec![], vec![], vec![]);
+    let mut second = vec![];
     for command in generate(1, 3000) {
         match command {
             Command::Table(numbers) => table = numbers,
             Command::File(bytes) => table = parse(&bytes).unwrap_or(table),
+            Command::Second(numbers) => second = numbers,
+            Command::Join(kind, lent) => {
+                table = joined(kind, &table, &second, lent).unwrap_or(table)
+            }
             Command::Inputs(numbers) => inputs = numbers,
             Command::Controls(numbers) => controls = numbers,
             Command::Walk(ticks, _, _) if ticks <= 4096 && controls.len() == 16 => {
@@ -268,10 +275,14 @@ impl Loose {
 #[test]
 fn loose_nodes() {
     let mut seen: [Loose; 3] = Default::default();
-    let mut table = vec![];
+    let (mut table, mut second) = (vec![], vec![]);
     for command in generate(1, 3000) {
         match command {
             Command::Table(numbers) => table = numbers,
+            Command::Second(numbers) => second = numbers,
+            Command::Join(kind, lent) => {
+                table = joined(kind, &table, &second, lent).unwrap_or(table)
+            }
             Command::Check => seen[0].table(&table),
             Command::Translate(_) => seen[1].table(&table),
             Command::Walk(..) => seen[2].table(&table),
@@ -338,6 +349,15 @@ fn empty_feedback() {
     assert!(seen.holds());
 }
 
+/// E8: joins of every kind that are accepted and worked, and each refusal of the entry, alone and
+/// with others at once.
+#[test]
+fn joins() {
+    let seen = Joins::of(&generate(1, 3000));
+    println!("{seen:#?}");
+    assert!(seen.holds());
+}
+
 /// A case does not depend on earlier ones.
 #[test]
 fn cases_stand_alone() {
@@ -352,12 +372,12 @@ fn cases_stand_alone() {
 fn maxima() {
     for command in generate(1, 3000) {
         let fits = match command {
-            Command::Table(numbers) => numbers.len() <= 2000,
+            Command::Table(numbers) | Command::Second(numbers) => numbers.len() <= 2000,
             Command::Code(numbers) => numbers.len() <= 13000,
             Command::Inputs(numbers) => numbers.len() <= 131200,
             Command::Controls(numbers) => numbers.len() <= 32,
             Command::File(bytes) => bytes.len() <= 21100,
-            Command::Read(length) => length <= 2000,
+            Command::Read(length) | Command::Join(_, length) => length <= 2000,
             Command::Write(length) => length <= 21100,
             Command::Translate(length) => length <= 13000,
             Command::Load(_, lent) | Command::Cells(lent) => lent <= 17000,

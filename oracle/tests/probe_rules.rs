@@ -25,6 +25,5 @@ fn in_the_mix() {
 
 #[test]
 fn by_hand() {
-    let one = |rule: &Rule| (rule.name, 1);
-    all_show(&[&shows::by_hand()], &RIGHT, rules(), one);
+    shows::in_the_cases(&RIGHT, rules(), |rule| rule.name);
 }

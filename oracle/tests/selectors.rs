@@ -1,8 +1,10 @@
 //! What the default mix holds of selectors: every op as often as the others, both ways of a
 //! selector, and calls on which a wrong rule shows.
 
+mod found;
 mod wrong;
 
+use found::joined;
 use oracle::arity::check;
 use oracle::column;
 use oracle::flat::{self, length, HEADER, WIDTH};
@@ -35,7 +37,7 @@ fn between(counts: &[usize], least: usize, most: usize) -> bool {
 fn ops_alike() {
     let commands = generate(1, 3000);
     let table = |command: &Command| match command {
-        Command::Table(numbers) => numbers.clone(),
+        Command::Table(numbers) | Command::Second(numbers) => numbers.clone(),
         Command::File(bytes) => column::parse(bytes).unwrap_or_default(),
         _ => vec![],
     };
@@ -119,9 +121,14 @@ impl Seen {
 fn both_ways() {
     let mut seen = Seen::default();
     let (mut table, mut inputs, mut controls) = (vec![], vec![], vec![]);
+    let mut second = vec![];
     for command in generate(1, 3000) {
         match command {
             Command::Table(numbers) => table = numbers,
+            Command::Second(numbers) => second = numbers,
+            Command::Join(kind, lent) => {
+                table = joined(kind, &table, &second, lent).unwrap_or(table)
+            }
             Command::Inputs(numbers) => inputs = numbers,
             Command::Controls(numbers) => controls = numbers,
             Command::Walk(ticks, _, _) if ticks <= 4096 && controls.len() == 16 => {

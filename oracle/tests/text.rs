@@ -49,3 +49,29 @@ recorded
     assert_eq!(expected(&commands), printed);
     assert_eq!(render(&commands), script.as_bytes());
 }
+
+/// The words of joins; the kind may be any number, and what was accepted is the table from then on.
+#[test]
+fn joins() {
+    let script = "table 1 5 0
+second 3 9 0
+join -1 9
+join 7 8
+join 7 10
+second 5 0*2
+join 7 15
+check
+second
+join 7 0
+";
+    let printed = "join refused 4 2 | 9*9
+join refused 12 -1 | 9*8
+join 9 | 1 5 0 3 9 0 7 0 1 9
+join 15 | 1 5 0 3 9 0 7 0 1 5 0*2 7 2 3
+check 0 1 2 0
+join refused 3 0 |
+";
+    let commands = parse(script.as_bytes());
+    assert_eq!(expected(&commands), printed);
+    assert_eq!(render(&commands), script.as_bytes());
+}

@@ -4,6 +4,7 @@ use oracle::arity::check;
 use oracle::column;
 use oracle::engine::{Block, Counts, Engine, Probes, Refusal, Worked};
 use oracle::entries::Past;
+use oracle::join::join;
 use oracle::translate::translate;
 
 /// An engine without any history: every tick by the flat code.
@@ -43,5 +44,8 @@ impl Engine for Flat {
     }
     fn run(&self, code: &[u32], block: &Block, cells: &mut [u32], outputs: &mut [u32]) -> Work {
         Past::default().run(code, None, block, cells, outputs)
+    }
+    fn join(&self, kind: u32, first: &[u32], second: &[u32], joined: &mut [u32]) -> Answer {
+        join(kind, first, second, joined)
     }
 }

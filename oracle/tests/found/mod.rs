@@ -1,10 +1,21 @@
-//! A table as a check goes through it, past the nodes that it refuses, with row 16 left out.
+//! What is found in scripts. A table as a check goes through it, past the nodes that it refuses,
+//! with row 16 left out.
 #![allow(dead_code)] // a test uses a part of it
 
 pub mod feedback;
+pub mod joins;
 
 use oracle::arity::{check_node, count_nodes, Arity, Node};
 use oracle::engine::Refusal;
+use oracle::join::join;
+
+/// The table that an accepted join leaves to a script.
+pub fn joined(kind: u32, first: &[u32], second: &[u32], lent: usize) -> Option<Vec<u32>> {
+    let mut buffer = vec![0; lent];
+    let numbers = join(kind, first, second, &mut buffer).ok()?;
+    buffer.truncate(numbers as usize);
+    Some(buffer)
+}
 
 /// The arity of a refused node: none fits it, and what is built on it is refused.
 const UNKNOWN: Arity = Arity {

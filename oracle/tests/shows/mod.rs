@@ -2,6 +2,7 @@
 #![allow(dead_code)] // a test uses a part of it
 
 use oracle::engine::Engine;
+use oracle::generate::generate;
 use oracle::parse::parse;
 use oracle::script::{expected, play, Command};
 
@@ -36,4 +37,22 @@ pub fn all_show<'a, R: Engine + 'a>(
         println!("{name}: {count} cases");
         assert!(count >= least, "{name}");
     }
+}
+
+/// They show in the default mix.
+pub fn in_the_mix<'a, R: Engine + 'a>(
+    right: &R,
+    wrong: impl Iterator<Item = &'a R>,
+    least: impl Fn(&R) -> (&'static str, usize),
+) {
+    all_show(&cases(&generate(1, 3000)), right, wrong, least);
+}
+
+/// They show in the cases by hand.
+pub fn in_the_cases<'a, R: Engine + 'a>(
+    right: &R,
+    wrong: impl Iterator<Item = &'a R>,
+    name: impl Fn(&R) -> &'static str,
+) {
+    all_show(&[&by_hand()], right, wrong, |rule| (name(rule), 1));
 }

@@ -239,4 +239,7 @@ impl<F: Fn(&Call) -> u32> Engine for Reporting<F> {
             ticks(code, None, block, &before)
         })
     }
+    fn join(&self, kind: u32, first: &[u32], second: &[u32], joined: &mut [u32]) -> Answer {
+        Flat.join(kind, first, second, joined)
+    }
 }

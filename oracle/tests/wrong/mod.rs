@@ -5,6 +5,7 @@ use oracle::column;
 use oracle::engine::{Block, Counts, Engine, Probes, Refusal, Worked};
 use oracle::entries::Past;
 use oracle::flat::{instruction, interpret_by, length, Instruction, Operate, HEADER, WIDTH};
+use oracle::join::join;
 use oracle::probes::{walk_by, wires, Recorder};
 use oracle::samples::{operate, BEYOND, SELECTOR};
 use oracle::translate::{code, translate};
@@ -270,5 +271,8 @@ impl Engine for Wrong {
         let (inputs, controls, ticks) = (block.inputs, block.controls, block.ticks as usize);
         let clipped = interpret_by(self.operate, &code, inputs, controls, cells, outputs, ticks);
         Ok(Worked { clipped, ..answer })
+    }
+    fn join(&self, kind: u32, first: &[u32], second: &[u32], joined: &mut [u32]) -> Answer {
+        join(kind, first, second, joined)
     }
 }
