@@ -157,6 +157,13 @@ pub fn selectors(steady: bool) -> Circuit {
     }
 }
 
+/// So many one-pole filters in a row; 8 nodes for each, but 7 for the last.
+pub fn filters(count: usize) -> Vec<u32> {
+    let mut b = Builder::default();
+    b.filters(count);
+    b.table
+}
+
 /// One-pole filters in a row inside an ondemand that is always busy; 8 nodes for each filter.
 pub fn family(nodes: usize) -> Circuit {
     let mut b = Builder::default();
@@ -166,9 +173,9 @@ pub fn family(nodes: usize) -> Circuit {
     circuit(&format!("{} filters", nodes / 8), b.table, 1, 1)
 }
 
-/// An accepted table of 512 nodes with all kinds and ops.
-pub fn random(seed: u64) -> Circuit {
-    let table = table_of(512, &mut Random::new(seed));
+/// An accepted table of so many nodes with all kinds and ops.
+pub fn random(nodes: usize, seed: u64) -> Circuit {
+    let table = table_of(nodes, &mut Random::new(seed));
     circuit(&format!("random {seed}"), table, 0, 0)
 }
 
@@ -183,5 +190,6 @@ pub fn all() -> Vec<Circuit> {
         selectors(false),
         family(512),
     ];
-    named.into_iter().chain((1..=4).map(random)).collect()
+    let large = (1..=4).map(|seed| random(512, seed));
+    named.into_iter().chain(large).collect()
 }

@@ -8,6 +8,15 @@ pub const INSTRUCTION_NUMBERS: usize = 6;
 unsafe extern "C" {
     fn circuit_read(file: *const u8, n: usize, table: *mut u32, m: usize) -> u64;
     fn circuit_check(table: *const u32, n: usize, counts: *mut u32, m: usize) -> u64;
+    fn circuit_join(
+        kind: u32,
+        first: *const u32,
+        n: usize,
+        second: *const u32,
+        k: usize,
+        joined: *mut u32,
+        m: usize,
+    ) -> u64;
     fn circuit_translate(table: *const u32, n: usize, code: *mut u32, m: usize) -> u64;
     fn circuit_load(named: u32, cells: *mut u32, n: usize) -> u64;
 }
@@ -140,6 +149,20 @@ pub fn check(table: &[u32]) -> Counts {
 
 pub fn read(file: &[u8], table: &mut [u32]) -> usize {
     count(unsafe { circuit_read(file.as_ptr(), file.len(), table.as_mut_ptr(), table.len()) })
+}
+
+pub fn join(kind: u32, first: &[u32], second: &[u32], joined: &mut [u32]) -> usize {
+    count(unsafe {
+        circuit_join(
+            kind,
+            first.as_ptr(),
+            first.len(),
+            second.as_ptr(),
+            second.len(),
+            joined.as_mut_ptr(),
+            joined.len(),
+        )
+    })
 }
 
 pub fn translate(table: &[u32], code: &mut [u32]) -> usize {

@@ -1,6 +1,7 @@
 //! What is measured.
 use crate::case::{Case, TICKS};
 use crate::engine;
+use crate::joins::Pair;
 use crate::measure::{Call, Job, interleaved};
 use crate::probes::{self, Probed};
 use std::hint::black_box;
@@ -104,6 +105,18 @@ pub fn table(case: &Case, lasting: Duration) -> Job<'_> {
             Box::new(|| _ = black_box(engine::read(&file, &mut table))),
             Box::new(|| _ = black_box(engine::check(&case.table))),
             Box::new(|| _ = black_box(engine::translate(&case.table, &mut code))),
+        ];
+        interleaved(lasting, calls).to_vec()
+    })
+}
+
+/// Nanoseconds of a join, and of the check of what is joined.
+pub fn join(pair: &Pair, lasting: Duration) -> Job<'_> {
+    Box::new(move || {
+        let mut joined = pair.joined.clone();
+        let calls: [Call; 2] = [
+            Box::new(|| _ = black_box(pair.join(&mut joined))),
+            Box::new(|| _ = black_box(engine::check(&pair.joined))),
         ];
         interleaved(lasting, calls).to_vec()
     })

@@ -4,6 +4,7 @@ mod circuits;
 mod engine;
 mod interpreter;
 mod jobs;
+mod joins;
 mod machine;
 mod measure;
 mod probes;
@@ -21,5 +22,5 @@ fn main() {
     let family = SIZES.map(|nodes| Case::new(circuits::family(nodes)));
     cases.iter().chain(&family).for_each(verify::verify);
     verify::verify_codes(1000);
-    report::print(&cases, &family);
+    report::print(&cases, &family, &joins::all());
 }

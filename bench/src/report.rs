@@ -1,6 +1,7 @@
 //! The tables, in Markdown.
 use crate::case::Case;
 use crate::jobs::{self, Times};
+use crate::joins::Pair;
 use crate::machine;
 use crate::measure::{Job, passes};
 use std::time::Duration;
@@ -132,6 +133,20 @@ fn tables(cases: &[&Case], lines: &[Vec<f64>]) {
     }
 }
 
+fn joins(pairs: &[Pair], lines: &[Vec<f64>]) {
+    let text = "Microseconds per joined table of 512 nodes, of tables of 256 and 255 in sequence, and nanoseconds per node. A \
+                join checks both tables, and then the joined one.";
+    let columns =
+        "tables | join | check of the joined | join, per node | check, per node | join / check";
+    heading("Join", text, columns);
+    for (pair, times) in pairs.iter().zip(lines) {
+        let micro = times.iter().map(|ns| ns / 1000.0);
+        let per_node = times.iter().map(|ns| ns / 512.0);
+        let ratio = times[0] / times[1];
+        line(&pair.name, micro.chain(per_node).chain([ratio]).map(digits));
+    }
+}
+
 fn nodes(family: &[Case], lines: &[Vec<f64>], tables: &[Vec<f64>]) {
     let text = "Circuits of one shape: one-pole filters in a row, 8 nodes for each, in an ondemand that is always \
                 busy. Nanoseconds; the walker in blocks of 256 ticks, the runner of 4,096.";
@@ -173,7 +188,7 @@ fn blocks(case: &Case, lines: &[Vec<f64>]) {
 }
 
 /// Measures everything, then prints it.
-pub fn print(cases: &[Case], family: &[Case]) {
+pub fn print(cases: &[Case], family: &[Case], pairs: &[Pair]) {
     let named = |case: &&Case| case.name == "integrator" || case.name == "random 1";
     let two: Vec<&Case> = cases.iter().filter(named).collect();
     let large: Vec<&Case> = cases.iter().filter(|case| case.nodes() == 512).collect();
@@ -188,19 +203,22 @@ pub fn print(cases: &[Case], family: &[Case]) {
     jobs.extend(cases.iter().map(|case| jobs::probes(case, short)));
     jobs.extend(large.iter().map(|case| jobs::table(case, shorter)));
     jobs.extend(family.iter().map(|case| jobs::table(case, shorter)));
+    jobs.extend(pairs.iter().map(|pair| jobs::join(pair, shorter)));
     let lines = passes(&jobs, PASSES);
 
     let (of_cases, rest) = lines.split_at(cases.len());
     let (of_family, rest) = rest.split_at(family.len());
     let (of_blocks, rest) = rest.split_at(two.len() * BLOCKS.len());
     let (of_probes, rest) = rest.split_at(cases.len());
-    let (of_large, of_family_tables) = rest.split_at(large.len());
+    let (of_large, rest) = rest.split_at(large.len());
+    let (of_family_tables, of_pairs) = rest.split_at(family.len());
     title();
     circuits(cases);
     runners(cases, of_cases);
     walkers(cases, of_cases);
     probes(cases, of_probes);
     tables(&large, of_large);
+    joins(pairs, of_pairs);
     nodes(family, of_family, of_family_tables);
     for (case, lines) in two.into_iter().zip(of_blocks.chunks(BLOCKS.len())) {
         blocks(case, lines);

@@ -69,6 +69,7 @@ extern "C" {
 #define CIRCUIT_STACK_WALK (692 * 1024)      /* 678 KiB */
 #define CIRCUIT_STACK_RUN (32 * 1024)        /* 17 KiB */
 #define CIRCUIT_STACK_CHECK (24 * 1024)      /* 11 KiB */
+#define CIRCUIT_STACK_JOIN (32 * 1024)       /* 17 KiB */
 #define CIRCUIT_STACK_READ (16 * 1024)       /* below 1 KiB */
 #define CIRCUIT_STACK_WRITE (16 * 1024)      /* below 1 KiB */
 #define CIRCUIT_STACK_LOAD (16 * 1024)       /* below 1 KiB */
@@ -90,7 +91,8 @@ enum {
     CIRCUIT_WRONG_CODE = 13,            /* numbers that are no flat code */
     CIRCUIT_WRONG_BLOCK = 14,           /* ticks not 0 to 4,096, inputs that are not ticks times the circuit's, or controls that are not 16 */
     CIRCUIT_WRONG_PROBES = 15,          /* an odd count of probe numbers, more than 16 probes, or one that names no output of the table */
-    CIRCUIT_EMPTY_FEEDBACK = 16         /* a recursion whose right side has neither inputs nor outputs */
+    CIRCUIT_EMPTY_FEEDBACK = 16,        /* a recursion whose right side has neither inputs nor outputs */
+    CIRCUIT_TOO_MANY_JOINED = 17        /* two tables to be joined whose nodes and the joining one are more than 512 */
 };
 
 /* The refusal's number, 0 for an accepted call. */
@@ -127,6 +129,18 @@ uint64_t circuit_read(const uint8_t *file, size_t file_bytes, int32_t *table, si
 /* Writes a table as a column file. Answers with the count of bytes, 41 a node; there is no closing 0.
  * Refusals: 3; 12. Of the table only the count of numbers is checked. */
 uint64_t circuit_write(const int32_t *table, size_t table_numbers, uint8_t *file, size_t file_bytes);
+
+/* Joins two tables by a composition, `kind` 7 to 11: writes the first table's nodes, the second's with child numbers moved
+ * on by the count of the first's nodes, then a node of this kind, whose first is the first table's last node and whose
+ * second the second's. Answers with the count of numbers, those of both tables and three. The joined table is accepted
+ * where the two can be composed, and its samples are the composition of what the two give. A table may be joined with
+ * itself: `first` and `second` may be the same buffer or overlap, `joined` may overlap neither.
+ * Refusals: the first table's; the second's; 17; the joined table's; 12. The place is a node of the table that is refused, in
+ * its own numbering: of the first or of the second, which circuit_check tells apart; of the joined table the joining node, the
+ * last, with 4 or 5 for a kind other than 7 to 11, else with 7, 16 or 8. Instructions and cells are not held to their limits:
+ * there is no 10 or 11. */
+uint64_t circuit_join(int32_t kind, const int32_t *first, size_t first_numbers, const int32_t *second,
+                      size_t second_numbers, int32_t *joined, size_t joined_numbers);
 
 /* Translates a table into flat code: inputs, outputs, count of instructions, count of cells; the instructions, six
  * numbers each; the output registers. Answers with the count of numbers.

@@ -1,5 +1,5 @@
 /* What the header says of buffers and answers: empty ones, lengths of 64 bits, refusals that write nothing. And a
- * selector, in a table and in codes; probes; and clipped delays. */
+ * selector, in a table and in codes; probes; clipped delays; and joined tables. */
 #include "circuit.h"
 
 #include <stdio.h>
@@ -30,6 +30,9 @@ static void empty_buffers(void) {
     expect("read", circuit_read(NULL, 0, NULL, 0), 3, 0);
     expect("write", circuit_write(NULL, 0, NULL, 0), 3, 0);
     expect("write into nothing", circuit_write(number, 3, NULL, 0), 12, -1);
+    expect("join", circuit_join(7, NULL, 0, NULL, 0, NULL, 0), 3, 0);
+    expect("join with nothing", circuit_join(7, number, 3, NULL, 0, NULL, 0), 3, 0);
+    expect("join into nothing", circuit_join(8, number, 3, number, 3, NULL, 0), 12, -1);
     expect("translate", circuit_translate(NULL, 0, NULL, 0), 3, 0);
     expect("translate into nothing", circuit_translate(number, 3, NULL, 0), 12, -1);
     expect("load", circuit_load(0, NULL, 0), 0, 0);
@@ -48,6 +51,7 @@ static void long_lengths(void) {
     uint32_t counts[CIRCUIT_COUNTS] = {9, 9, 9, 9};
     int32_t cells[] = {9, 9, 9, 9};
     expect("a long table", circuit_check(integrator, ((size_t)1 << 33) + 9, counts, CIRCUIT_COUNTS), 3, 0);
+    expect("a long table to be joined", circuit_join(7, integrator, 9, integrator, ((size_t)1 << 32) + 9, cells, 4), 3, 0);
     expect("long cells", circuit_load(3, cells, (size_t)1 << 32), 0, 3);
     same("cell 2", cells[2], 0);
     same("cell 3", cells[3], 9);
@@ -230,6 +234,100 @@ static void clipped_delays(void) {
     report("a refused code", circuit_run(code, numbers - 1, 5, inputs, 15, controls, 16, ran, 4, outputs, 5), 13, -1, 0);
 }
 
+/* A table, and its count of numbers. */
+struct drawing {
+    size_t numbers;
+    int32_t table[CIRCUIT_TABLE_NUMBERS];
+};
+
+static const struct drawing number = {3, {1, 7, 0}}, cable = {3, {5, 0, 0}}, add = {3, {3, 1, 0}};
+static const struct drawing two_cables = {9, {5, 0, 0, 5, 0, 0, 8, 0, 1}}, integrator = {9, {3, 1, 0, 5, 0, 0, 11, 0, 1}};
+
+/* Two tables joined into so many numbers of a buffer that were 9; if they are refused it stays as it was, else past the
+ * count answered. */
+static int32_t joined[CIRCUIT_TABLE_NUMBERS + 1];
+
+static uint64_t join(int32_t kind, const struct drawing *first, const struct drawing *second, size_t numbers) {
+    for (size_t i = 0; i <= CIRCUIT_TABLE_NUMBERS; i++)
+        joined[i] = 9;
+    uint64_t answer = circuit_join(kind, first->table, first->numbers, second->table, second->numbers, joined, numbers);
+    for (size_t i = circuit_refusal(answer) == 0 ? circuit_count(answer) : 0; i <= CIRCUIT_TABLE_NUMBERS; i++)
+        same("past what is joined", joined[i], 9);
+    return answer;
+}
+
+/* Every kind; a value and a body in the second; a table with itself. Into a buffer as long as needed, and a longer one. */
+static void joins(void) {
+    static const struct drawing negation = {3, {3, 9, 0}}, on_demand = {6, {1, 1, 0, 12, 0, 0}};
+    static const struct {
+        int32_t kind;
+        const struct drawing *first, *second;
+        struct drawing joined;
+    } all[] = {
+        {7, &number, &negation, {9, {1, 7, 0, 3, 9, 0, 7, 0, 1}}},
+        {8, &cable, &integrator, {15, {5, 0, 0, 3, 1, 0, 5, 0, 0, 11, 1, 2, 8, 0, 3}}},
+        {9, &integrator, &add, {15, {3, 1, 0, 5, 0, 0, 11, 0, 1, 3, 1, 0, 9, 2, 3}}},
+        {10, &two_cables, &cable, {15, {5, 0, 0, 5, 0, 0, 8, 0, 1, 5, 0, 0, 10, 2, 3}}},
+        {11, &add, &cable, {9, {3, 1, 0, 5, 0, 0, 11, 0, 1}}},
+        {8, &two_cables, &on_demand, {18, {5, 0, 0, 5, 0, 0, 8, 0, 1, 1, 1, 0, 12, 3, 0, 8, 2, 4}}},
+        {7, &integrator, &integrator, {21, {3, 1, 0, 5, 0, 0, 11, 0, 1, 3, 1, 0, 5, 0, 0, 11, 3, 4, 7, 2, 5}}},
+    };
+    for (size_t i = 0; i < sizeof all / sizeof *all; i++)
+        for (size_t more = 0; more < 2; more++) {
+            size_t numbers = all[i].joined.numbers;
+            expect("a join", join(all[i].kind, all[i].first, all[i].second, numbers + more), 0, (int32_t)numbers);
+            same_numbers("what is joined", joined, all[i].joined.table, numbers);
+        }
+}
+
+/* A drawing of so many nodes: cables in a row, around them an ondemand if the count is even. */
+static struct drawing row(int32_t nodes) {
+    struct drawing row = cable;
+    for (int32_t last = 0; last + 1 < nodes; last = (int32_t)row.numbers / 3 - 1) {
+        int32_t *next = &row.table[row.numbers];
+        if (last + 2 < nodes)
+            next[0] = 5, next[3] = 7, next[4] = last, next[5] = last + 1, row.numbers += 6;
+        else
+            next[0] = 12, next[1] = last, row.numbers += 3;
+    }
+    return row;
+}
+
+/* 17 follows the refusals of both tables, and comes before those of the joined one and before 12. */
+static void too_many_joined(void) {
+    static const struct drawing wrong = {6, {5, 0, 0, 13, 0, 0}};
+    struct drawing all = row(512), some = row(256), others = row(255), more = row(257);
+    expect("512 nodes joined", join(7, &some, &others, CIRCUIT_TABLE_NUMBERS), 0, CIRCUIT_TABLE_NUMBERS);
+    expect("513 nodes joined", join(7, &more, &others, CIRCUIT_TABLE_NUMBERS), CIRCUIT_TOO_MANY_JOINED, -1);
+    expect("512 nodes and one", join(7, &all, &cable, CIRCUIT_TABLE_NUMBERS), 17, -1);
+    expect("one node and 512", join(8, &cable, &all, CIRCUIT_TABLE_NUMBERS), 17, -1);
+    expect("513 nodes, no kind, no buffer", join(13, &more, &others, 0), 17, -1);
+    expect("513 nodes, no rule", join(7, &two_cables, &all, CIRCUIT_TABLE_NUMBERS), 17, -1);
+    expect("a wrong second table first", join(7, &all, &wrong, CIRCUIT_TABLE_NUMBERS), 4, 1);
+    expect("a wrong first table first", join(7, &wrong, &all, CIRCUIT_TABLE_NUMBERS), 4, 1);
+}
+
+/* The first table's, the second's in its own numbering, and the joined table's at the joining node; 12 is the last. */
+static void refused_joins(void) {
+    static const struct drawing loose = {6, {5, 0, 0, 5, 0, 0}}, nothing = {0, {0}}, empty = {9, {1, 7, 0, 6, 0, 0, 7, 0, 1}};
+    static const int32_t unknown[] = {0, 13, -1, 263, INT32_MIN, INT32_MAX}, with_fields[] = {1, 2, 3, 4, 5, 6, 12};
+    struct drawing wide = cable;
+    for (int32_t last = 0; last < 2 * (CIRCUIT_WIDTH - 1); last += 2, wide.numbers += 6) {
+        int32_t *next = &wide.table[wide.numbers];
+        next[0] = 5, next[3] = 8, next[4] = last, next[5] = last + 1;
+    }
+    expect("a refused first", join(13, &loose, &nothing, 0), 9, 0);
+    expect("a refused second", join(13, &integrator, &loose, 0), 9, 0);
+    for (size_t i = 0; i < sizeof unknown / sizeof *unknown; i++)
+        expect("no kind", join(unknown[i], &integrator, &cable, 0), 4, 4);
+    for (size_t i = 0; i < sizeof with_fields / sizeof *with_fields; i++)
+        expect("no composition", join(with_fields[i], &cable, &integrator, 0), 5, 4);
+    expect("no rule", join(7, &two_cables, &cable, 0), 7, 4);
+    expect("empty feedback", join(11, &cable, &empty, 0), 16, 4);
+    expect("32 and one", join(8, &wide, &cable, 0), 8, 64);
+    expect("a short buffer", join(7, &integrator, &cable, 14), 12, -1);
+}
+
 /* The four parts of an answer, each at its bits. */
 static void parts_of_an_answer(void) {
     uint64_t accepted = ((uint64_t)4096 << 48) | 131072, refused = ((uint64_t)9 << 32) | 7;
@@ -251,6 +349,9 @@ int main(void) {
     wrong_probes();
     short_for_probes();
     clipped_delays();
+    joins();
+    too_many_joined();
+    refused_joins();
     parts_of_an_answer();
     return failures != 0;
 }

@@ -77,6 +77,12 @@ static int write_file(void) {
     return circuit_write(table, CIRCUIT_TABLE_NUMBERS, (uint8_t *)file, CIRCUIT_FILE_BYTES) == CIRCUIT_FILE_BYTES;
 }
 
+/* Of the deepest circuit the part up to node 508, an ondemand, which takes 32 clocks and gives a number; and the part up to
+ * node 1, which takes that for its clock: 512 nodes in all. */
+static int join(void) {
+    return circuit_join(7, table, 3 * 509, table, 3 * 2, again, CIRCUIT_TABLE_NUMBERS) == CIRCUIT_TABLE_NUMBERS;
+}
+
 /* An instruction for each of the 16 numbers, three for each of the 481 ondemands, one output. */
 static int translate(void) {
     uint64_t numbers = CIRCUIT_HEADER_NUMBERS + CIRCUIT_INSTRUCTION_NUMBERS * (16 + 3 * 481) + 1;
@@ -117,6 +123,7 @@ static const struct entry entries[] = {
     {"check", check, CIRCUIT_STACK_CHECK},
     {"read", read_file, CIRCUIT_STACK_READ},
     {"write", write_file, CIRCUIT_STACK_WRITE},
+    {"join", join, CIRCUIT_STACK_JOIN},
     {"translate", translate, CIRCUIT_STACK_TRANSLATE},
     {"load", load, CIRCUIT_STACK_LOAD},
     {"walk", walk, CIRCUIT_STACK_WALK},

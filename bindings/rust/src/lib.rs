@@ -66,6 +66,8 @@ pub const STACK_WALK: usize = 692 * 1024;
 pub const STACK_RUN: usize = 32 * 1024;
 /// The same for [`check`].
 pub const STACK_CHECK: usize = 24 * 1024;
+/// The same for [`join`].
+pub const STACK_JOIN: usize = 32 * 1024;
 /// The same for [`read`].
 pub const STACK_READ: usize = 16 * 1024;
 /// The same for [`write()`].
@@ -76,7 +78,7 @@ pub const STACK_LOAD: usize = 16 * 1024;
 /// Why a call was refused, and where.
 #[derive(Clone, Copy, Debug, PartialEq, Eq, Hash)]
 pub struct Refusal {
-    /// 1 to 16, as the document numbers them.
+    /// 1 to 17, as the document numbers them.
     pub number: u32,
     /// The line or node for refusals 1 to 9, the node for 16, else -1.
     pub place: i32,
@@ -102,6 +104,7 @@ impl Refusal {
             14 => "ticks not 0 to 4,096, inputs that are not ticks times the circuit's, or controls that are not 16",
             15 => "an odd count of probe numbers, more than 16 probes, or one that names no output of the table",
             16 => "a recursion whose right side has neither inputs nor outputs",
+            17 => "two tables to be joined whose nodes and the joining one are more than 512",
             _ => "no refusal of the document",
         }
     }
@@ -192,6 +195,37 @@ pub fn read(file: &[u8], table: &mut [i32]) -> Result<usize, Refusal> {
 /// Refusals: 3; 12. Of the table only the count of numbers is checked.
 pub fn write(table: &[i32], file: &mut [u8]) -> Result<usize, Refusal> {
     decoded(sys::write(table, file))
+}
+
+/// Joins two tables by a composition, `kind` 7 to 11; gives the count of numbers, those of both tables and three.
+///
+/// What is written are the first table's nodes, the second's with child numbers moved on by the count of the first's
+/// nodes, then a node of this kind, whose first is the first table's last node and whose second the second's. The joined
+/// table is accepted where the two can be composed, and its samples are the composition of what the two give. A table may
+/// be joined with itself.
+///
+/// ```
+/// // the integrator, and after it an absolute value: a sequence, kind 7
+/// let mut joined = [0; circuit::TABLE_NUMBERS];
+/// let numbers = circuit::join(7, &[3, 1, 0, 5, 0, 0, 11, 0, 1], &[3, 8, 0], &mut joined)?;
+/// assert_eq!(joined[..numbers], [3, 1, 0, 5, 0, 0, 11, 0, 1, 3, 8, 0, 7, 2, 3]);
+/// let (mut cells, mut outputs) = ([0; 1], [0; 3]);
+/// circuit::walk(&joined[..numbers], 3, &[1, -5, 2], &[0; circuit::CONTROLS], &mut cells, &mut outputs)?;
+/// assert_eq!(outputs, [1, 4, 2]);
+/// # Ok::<(), circuit::Refusal>(())
+/// ```
+///
+/// Refusals: the first table's; the second's; 17; the joined table's; 12. A table's are those of [`check`], the place a node of
+/// that table: of the first or of the second, which [`check`] tells apart; of the joined table the joining node, the last, with
+/// 4 or 5 for a kind other than 7 to 11, else with 7, 16 or 8. Instructions and cells are not held to their limits: there is
+/// no 10 or 11.
+pub fn join(
+    kind: i32,
+    first: &[i32],
+    second: &[i32],
+    joined: &mut [i32],
+) -> Result<usize, Refusal> {
+    decoded(sys::join(kind, first, second, joined))
 }
 
 /// Translates a table into flat code; gives the count of numbers.

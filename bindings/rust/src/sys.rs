@@ -7,6 +7,15 @@ extern "C" {
     fn circuit_check(table: *const i32, numbers: usize, counts: *mut u32, length: usize) -> u64;
     fn circuit_read(file: *const u8, bytes: usize, table: *mut i32, numbers: usize) -> u64;
     fn circuit_write(table: *const i32, numbers: usize, file: *mut u8, bytes: usize) -> u64;
+    fn circuit_join(
+        kind: i32,
+        first: *const i32,
+        first_numbers: usize,
+        second: *const i32,
+        second_numbers: usize,
+        joined: *mut i32,
+        joined_numbers: usize,
+    ) -> u64;
     fn circuit_translate(table: *const i32, numbers: usize, code: *mut i32, length: usize) -> u64;
     fn circuit_load(named: u32, cells: *mut i32, length: usize) -> u64;
     fn circuit_walk(
@@ -74,6 +83,20 @@ pub fn read(file: &[u8], table: &mut [i32]) -> u64 {
 
 pub fn write(table: &[i32], file: &mut [u8]) -> u64 {
     unsafe { circuit_write(table.as_ptr(), table.len(), file.as_mut_ptr(), file.len()) }
+}
+
+pub fn join(kind: i32, first: &[i32], second: &[i32], joined: &mut [i32]) -> u64 {
+    unsafe {
+        circuit_join(
+            kind,
+            first.as_ptr(),
+            first.len(),
+            second.as_ptr(),
+            second.len(),
+            joined.as_mut_ptr(),
+            joined.len(),
+        )
+    }
 }
 
 pub fn translate(table: &[i32], code: &mut [i32]) -> u64 {

@@ -362,6 +362,10 @@ fn short_buffers() {
         circuit::translate(&INTEGRATOR, &mut [9; INTEGRATOR_CODE - 1]),
         refusal(12, -1)
     );
+    assert_eq!(
+        circuit::join(7, &INTEGRATOR, &INTEGRATOR, &mut [9; 20]),
+        refusal(12, -1)
+    );
     assert_eq!(circuit::load(3, &mut [9; 2]), refusal(12, -1));
     assert_eq!(
         circuit::walk(&INTEGRATOR, 2, &[1, 2], &SILENT, &mut [9], &mut [9]),
@@ -376,6 +380,9 @@ fn empty_slices() {
     assert_eq!(circuit::read(&[], &mut []), refusal(3, 0));
     assert_eq!(circuit::write(&[], &mut []), refusal(3, 0));
     assert_eq!(circuit::write(&number, &mut []), refusal(12, -1));
+    assert_eq!(circuit::join(7, &[], &[], &mut []), refusal(3, 0));
+    assert_eq!(circuit::join(7, &number, &[], &mut []), refusal(3, 0));
+    assert_eq!(circuit::join(8, &number, &number, &mut []), refusal(12, -1));
     assert_eq!(circuit::translate(&[], &mut []), refusal(3, 0));
     assert_eq!(circuit::translate(&number, &mut []), refusal(12, -1));
     assert_eq!(circuit::load(0, &mut []), Ok(0));
@@ -415,5 +422,9 @@ fn printed() {
     assert_eq!(
         printed(15, -1),
         "refusal 15: an odd count of probe numbers, more than 16 probes, or one that names no output of the table"
+    );
+    assert_eq!(
+        printed(17, -1),
+        "refusal 17: two tables to be joined whose nodes and the joining one are more than 512"
     );
 }

@@ -50,9 +50,9 @@ fn upper(name: &str) -> String {
 }
 
 #[test]
-fn numbered_from_1_to_16() {
+fn numbered_from_1_to_17() {
     let numbers: Vec<u32> = rows().into_iter().map(|(number, _, _)| number).collect();
-    assert_eq!(numbers, (1..=16).collect::<Vec<_>>());
+    assert_eq!(numbers, (1..=17).collect::<Vec<_>>());
 }
 
 /// By the place where they are looked for, so in another order.
@@ -148,7 +148,7 @@ fn said<'a>(text: &'a str, entry: &str) -> &'a str {
 #[test]
 fn orders_of_the_calls() {
     let package = include_str!("../src/lib.rs");
-    assert_eq!(orders().len(), 8);
+    assert_eq!(orders().len(), 9);
     for (entry, order) in orders() {
         // The exported check fills a buffer.
         let exported = match entry.as_str() {
@@ -198,6 +198,7 @@ fn limits() {
         ("STACK_WALK", circuit::STACK_WALK),
         ("STACK_RUN", circuit::STACK_RUN),
         ("STACK_CHECK", circuit::STACK_CHECK),
+        ("STACK_JOIN", circuit::STACK_JOIN),
         ("STACK_READ", circuit::STACK_READ),
         ("STACK_WRITE", circuit::STACK_WRITE),
         ("STACK_LOAD", circuit::STACK_LOAD),

@@ -68,6 +68,13 @@ impl Engine for Proved {
         answer(lent(code, |code| circuit::translate(&signed(table), code)))
     }
 
+    fn join(&self, kind: u32, first: &[u32], second: &[u32], joined: &mut [u32]) -> Answer {
+        let (first, second) = (signed(first), signed(second));
+        answer(lent(joined, |joined| {
+            circuit::join(kind as i32, &first, &second, joined)
+        }))
+    }
+
     fn load(&self, named: u32, cells: &mut [u32]) -> Answer {
         answer(lent(cells, |cells| circuit::load(named, cells)))
     }
