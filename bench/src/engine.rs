@@ -19,22 +19,6 @@ unsafe extern "C" {
     ) -> u64;
     fn circuit_translate(table: *const u32, n: usize, code: *mut u32, m: usize) -> u64;
     fn circuit_load(named: u32, cells: *mut u32, n: usize) -> u64;
-    fn circuit_save(
-        table: *const u32,
-        n: usize,
-        cells: *const u32,
-        k: usize,
-        file: *mut u8,
-        m: usize,
-    ) -> u64;
-    fn circuit_restore(
-        table: *const u32,
-        n: usize,
-        file: *const u8,
-        m: usize,
-        cells: *mut u32,
-        k: usize,
-    ) -> u64;
 }
 
 /// Entries of the engine that work a block of ticks.
@@ -187,32 +171,6 @@ pub fn translate(table: &[u32], code: &mut [u32]) -> usize {
 
 pub fn load(named: usize, cells: &mut [u32]) -> usize {
     count(unsafe { circuit_load(named as u32, cells.as_mut_ptr(), cells.len()) })
-}
-
-pub fn save(table: &[u32], cells: &[u32], file: &mut [u8]) -> usize {
-    count(unsafe {
-        circuit_save(
-            table.as_ptr(),
-            table.len(),
-            cells.as_ptr(),
-            cells.len(),
-            file.as_mut_ptr(),
-            file.len(),
-        )
-    })
-}
-
-pub fn restore(table: &[u32], file: &[u8], cells: &mut [u32]) -> usize {
-    count(unsafe {
-        circuit_restore(
-            table.as_ptr(),
-            table.len(),
-            file.as_ptr(),
-            file.len(),
-            cells.as_mut_ptr(),
-            cells.len(),
-        )
-    })
 }
 
 /// What a call on a block of ticks is given beside the table or the code.

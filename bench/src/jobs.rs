@@ -4,7 +4,6 @@ use crate::engine;
 use crate::joins::Pair;
 use crate::measure::{Call, Job, interleaved};
 use crate::probes::{self, Probed};
-use crate::states::{CELLS, State};
 use std::hint::black_box;
 use std::time::Duration;
 
@@ -118,18 +117,6 @@ pub fn join(pair: &Pair, lasting: Duration) -> Job<'_> {
         let calls: [Call; 2] = [
             Box::new(|| _ = black_box(pair.join(&mut joined))),
             Box::new(|| _ = black_box(engine::check(&pair.joined))),
-        ];
-        interleaved(lasting, calls).to_vec()
-    })
-}
-
-/// Nanoseconds of a saving, and of a restoring.
-pub fn state(state: &State, lasting: Duration) -> Job<'_> {
-    Box::new(move || {
-        let (mut file, mut cells) = (vec![0; state.file_bytes()], vec![0; CELLS]);
-        let calls: [Call; 2] = [
-            Box::new(|| _ = black_box(state.save(&mut file))),
-            Box::new(|| _ = black_box(state.restore(&mut cells))),
         ];
         interleaved(lasting, calls).to_vec()
     })

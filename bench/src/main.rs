@@ -10,7 +10,6 @@ mod measure;
 mod probes;
 mod random;
 mod report;
-mod states;
 mod verify;
 
 use case::Case;
@@ -23,5 +22,5 @@ fn main() {
     let family = SIZES.map(|nodes| Case::new(circuits::family(nodes)));
     cases.iter().chain(&family).for_each(verify::verify);
     verify::verify_codes(1000);
-    report::print(&cases, &family, &joins::all(), &states::all());
+    report::print(&cases, &family, &joins::all());
 }

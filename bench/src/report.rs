@@ -4,7 +4,6 @@ use crate::jobs::{self, Times};
 use crate::joins::Pair;
 use crate::machine;
 use crate::measure::{Job, passes};
-use crate::states::{CELLS, State};
 use std::time::Duration;
 
 /// The lengths of blocks, in ticks.
@@ -148,17 +147,6 @@ fn joins(pairs: &[Pair], lines: &[Vec<f64>]) {
     }
 }
 
-fn states(states: &[State], lines: &[Vec<f64>]) {
-    let text = "Microseconds per state file of 16,384 cells, and nanoseconds per cell.";
-    let columns = "cells hold | save | restore | save, per cell | restore, per cell";
-    heading("State files", text, columns);
-    for (state, times) in states.iter().zip(lines) {
-        let micro = times.iter().map(|ns| ns / 1000.0);
-        let per_cell = times.iter().map(|ns| ns / CELLS as f64);
-        line(state.name, micro.chain(per_cell).map(digits));
-    }
-}
-
 fn nodes(family: &[Case], lines: &[Vec<f64>], tables: &[Vec<f64>]) {
     let text = "Circuits of one shape: one-pole filters in a row, 8 nodes for each, in an ondemand that is always \
                 busy. Nanoseconds; the walker in blocks of 256 ticks, the runner of 4,096.";
@@ -200,7 +188,7 @@ fn blocks(case: &Case, lines: &[Vec<f64>]) {
 }
 
 /// Measures everything, then prints it.
-pub fn print(cases: &[Case], family: &[Case], pairs: &[Pair], saved: &[State]) {
+pub fn print(cases: &[Case], family: &[Case], pairs: &[Pair]) {
     let named = |case: &&Case| case.name == "integrator" || case.name == "random 1";
     let two: Vec<&Case> = cases.iter().filter(named).collect();
     let large: Vec<&Case> = cases.iter().filter(|case| case.nodes() == 512).collect();
@@ -216,7 +204,6 @@ pub fn print(cases: &[Case], family: &[Case], pairs: &[Pair], saved: &[State]) {
     jobs.extend(large.iter().map(|case| jobs::table(case, shorter)));
     jobs.extend(family.iter().map(|case| jobs::table(case, shorter)));
     jobs.extend(pairs.iter().map(|pair| jobs::join(pair, shorter)));
-    jobs.extend(saved.iter().map(|state| jobs::state(state, short)));
     let lines = passes(&jobs, PASSES);
 
     let (of_cases, rest) = lines.split_at(cases.len());
@@ -224,8 +211,7 @@ pub fn print(cases: &[Case], family: &[Case], pairs: &[Pair], saved: &[State]) {
     let (of_blocks, rest) = rest.split_at(two.len() * BLOCKS.len());
     let (of_probes, rest) = rest.split_at(cases.len());
     let (of_large, rest) = rest.split_at(large.len());
-    let (of_family_tables, rest) = rest.split_at(family.len());
-    let (of_pairs, of_states) = rest.split_at(pairs.len());
+    let (of_family_tables, of_pairs) = rest.split_at(family.len());
     title();
     circuits(cases);
     runners(cases, of_cases);
@@ -233,7 +219,6 @@ pub fn print(cases: &[Case], family: &[Case], pairs: &[Pair], saved: &[State]) {
     probes(cases, of_probes);
     tables(&large, of_large);
     joins(pairs, of_pairs);
-    states(saved, of_states);
     nodes(family, of_family, of_family_tables);
     for (case, lines) in two.into_iter().zip(of_blocks.chunks(BLOCKS.len())) {
         blocks(case, lines);

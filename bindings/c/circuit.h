@@ -1,4 +1,4 @@
-/* Faust circuits on 32-bit integer samples: tables, flat code, walker, runner and state files.
+/* Faust circuits on 32-bit integer samples: tables, flat code, walker and runner.
  *
  * Link with target/staticlib/libcircuit.a (x86-64 Linux), which `rt staticlib circuit` writes. What each function
  * does is proved, for all numbers in the buffers: the contracts are in crates/circuit/src/lib.rt.
@@ -48,7 +48,6 @@ extern "C" {
 #define CIRCUIT_INSTRUCTION_NUMBERS 6 /* of an instruction */
 #define CIRCUIT_CODE_NUMBERS (CIRCUIT_HEADER_NUMBERS + CIRCUIT_INSTRUCTION_NUMBERS * CIRCUIT_INSTRUCTIONS + CIRCUIT_WIDTH)
 #define CIRCUIT_CELLS 16384
-#define CIRCUIT_STATE_BYTES (13 + 13 * CIRCUIT_CELLS) /* of a state file: 13 for each line, the count's and one for each cell */
 #define CIRCUIT_TICKS 4096  /* of one call */
 #define CIRCUIT_CONTROLS 16 /* exactly so many */
 #define CIRCUIT_COUNTS 4    /* that the check reports */
@@ -74,8 +73,6 @@ extern "C" {
 #define CIRCUIT_STACK_READ (16 * 1024)       /* below 1 KiB */
 #define CIRCUIT_STACK_WRITE (16 * 1024)      /* below 1 KiB */
 #define CIRCUIT_STACK_LOAD (16 * 1024)       /* below 1 KiB */
-#define CIRCUIT_STACK_SAVE (24 * 1024)       /* 11 KiB */
-#define CIRCUIT_STACK_RESTORE (24 * 1024)    /* 11 KiB */
 
 /* The refusals by number. */
 enum {
@@ -95,8 +92,7 @@ enum {
     CIRCUIT_WRONG_BLOCK = 14,           /* ticks not 0 to 4,096, inputs that are not ticks times the circuit's, or controls that are not 16 */
     CIRCUIT_WRONG_PROBES = 15,          /* an odd count of probe numbers, more than 16 probes, or one that names no output of the table */
     CIRCUIT_EMPTY_FEEDBACK = 16,        /* a recursion whose right side has neither inputs nor outputs */
-    CIRCUIT_TOO_MANY_JOINED = 17,       /* two tables to be joined whose nodes and the joining one are more than 512 */
-    CIRCUIT_WRONG_STATE = 18            /* a file that is no state file of as many cells as the table has */
+    CIRCUIT_TOO_MANY_JOINED = 17        /* two tables to be joined whose nodes and the joining one are more than 512 */
 };
 
 /* The refusal's number, 0 for an accepted call. */
@@ -152,25 +148,9 @@ uint64_t circuit_join(int32_t kind, const int32_t *first, size_t first_numbers, 
 uint64_t circuit_translate(const int32_t *table, size_t table_numbers, int32_t *code, size_t code_numbers);
 
 /* Sets the first `named` cells to 0 and touches no others. Answers with `named`. A circuit starts from cells that were
- * loaded with at least its count, and goes on from cells that were restored.
+ * loaded with at least its count.
  * Refusals: 11; 12. */
 uint64_t circuit_load(uint32_t named, int32_t *cells, size_t cells_length);
-
-/* Saves a test in progress: writes the table's cells as a state file, a line with their count and a line for each, a
- * number in 12 columns and a line feed. Answers with the count of bytes, 13 a line; there is no closing 0. `cells` holds at
- * least the table's count; what lies behind that is not looked at.
- * Refusals: the table's; 11; 12. The last is also for fewer cells than the table has, which are read here and not written. */
-uint64_t circuit_save(const int32_t *table, size_t table_numbers, const int32_t *cells, size_t cells_length,
-                      uint8_t *file, size_t file_bytes);
-
-/* Restores what circuit_save has written: sets the table's cells to those of the file and touches no others. Answers with
- * their count. It takes the place of a load: if the file was saved after a load and nothing but walks and runs of the
- * same circuit, the history goes on from the saving, and later samples and reports are those of a test that was never stopped,
- * in the same memory or any other. Only circuit_walk_probed still needs a load itself: its list is not in the file. A position
- * of a delay that lies outside its ring is restored as it is.
- * Refusals: the table's; 11; 18; 12. The file has the count's line, the cells' lines and no byte more. */
-uint64_t circuit_restore(const int32_t *table, size_t table_numbers, const uint8_t *file, size_t file_bytes,
-                         int32_t *cells, size_t cells_length);
 
 /* Walks a table for a block of ticks. `inputs` has the circuit's n inputs of each tick, tick after tick; `controls`
  * holds for the whole call; the cells, at least as many as the table's count, go on from the last call; `outputs`, at

@@ -1,9 +1,8 @@
 /* What the header says of buffers and answers: empty ones, lengths of 64 bits, refusals that write nothing. And a
- * selector, in a table and in codes; probes; clipped delays; joined tables; and state files. */
+ * selector, in a table and in codes; probes; clipped delays; and joined tables. */
 #include "circuit.h"
 
 #include <stdio.h>
-#include <string.h>
 
 static int failures;
 
@@ -38,10 +37,6 @@ static void empty_buffers(void) {
     expect("translate into nothing", circuit_translate(number, 3, NULL, 0), 12, -1);
     expect("load", circuit_load(0, NULL, 0), 0, 0);
     expect("load into nothing", circuit_load(1, NULL, 0), 12, -1);
-    expect("save", circuit_save(NULL, 0, NULL, 0, NULL, 0), 3, 0);
-    expect("save into nothing", circuit_save(number, 3, NULL, 0, NULL, 0), 12, -1);
-    expect("restore", circuit_restore(NULL, 0, NULL, 0, NULL, 0), 3, 0);
-    expect("restore from nothing", circuit_restore(number, 3, NULL, 0, NULL, 0), 18, -1);
     expect("walk", circuit_walk(number, 3, 0, NULL, 0, controls, 16, NULL, 0, NULL, 0), 0, 0);
     expect("walk of nothing", circuit_walk(NULL, 0, 0, NULL, 0, NULL, 0, NULL, 0, NULL, 0), 3, 0);
     expect("probed walk", circuit_walk_probed(number, 3, NULL, 0, 0, NULL, 0, controls, 16, NULL, 0, NULL, 0, NULL, 0, NULL, 0), 0, 0);
@@ -60,12 +55,6 @@ static void long_lengths(void) {
     expect("long cells", circuit_load(3, cells, (size_t)1 << 32), 0, 3);
     same("cell 2", cells[2], 0);
     same("cell 3", cells[3], 9);
-    uint8_t file[2 * 13];
-    expect("a long table to be saved", circuit_save(integrator, ((size_t)1 << 32) + 9, cells, 4, file, 26), 3, 0);
-    expect("long cells to be saved", circuit_save(integrator, 9, cells, (size_t)1 << 32, file, 26), 0, 26);
-    expect("into a long buffer", circuit_save(integrator, 9, cells, 1, file, (size_t)1 << 32), 0, 26);
-    expect("a long file", circuit_restore(integrator, 9, file, ((size_t)1 << 32) + 26, cells, 4), 18, -1);
-    expect("long cells to be restored", circuit_restore(integrator, 9, file, 26, cells, (size_t)1 << 32), 0, 1);
 }
 
 static void counts_and_refusals(void) {
@@ -339,55 +328,6 @@ static void refused_joins(void) {
     expect("a short buffer", join(7, &integrator, &cable, 14), 12, -1);
 }
 
-/* A delay with D = 2, its position outside its ring: saved and restored as it is, into and from longer buffers. */
-static void states(void) {
-    static const int32_t table[] = {4, 2, 0}, cells[] = {-7, INT32_MIN, INT32_MAX, 9}, untouched[] = {9, 9, 9, 9};
-    static const char expected[] = "           3\n          -7\n -2147483648\n  2147483647\n..";
-    int32_t restored[] = {9, 9, 9, 9};
-    uint8_t file[sizeof expected - 1];
-    memset(file, '.', sizeof file);
-    expect("a short buffer for a file", circuit_save(table, 3, cells, 4, file, 51), 12, -1);
-    expect("a cell too few to be saved", circuit_save(table, 3, cells, 2, file, sizeof file), 12, -1);
-    same("a file after refusals", memchr(file, '\n', sizeof file) != NULL, 0);
-    expect("a saving", circuit_save(table, 3, cells, 4, file, sizeof file), 0, 52);
-    same("its file", memcmp(file, expected, sizeof file), 0);
-    expect("a byte too many", circuit_restore(table, 3, file, 53, restored, 4), CIRCUIT_WRONG_STATE, -1);
-    expect("a byte too few, and no cells", circuit_restore(table, 3, file, 51, NULL, 0), 18, -1);
-    expect("a cell too few", circuit_restore(table, 3, file, 52, restored, 2), 12, -1);
-    file[12] = ' ';
-    expect("no line feed", circuit_restore(table, 3, file, 52, restored, 4), 18, -1);
-    same_numbers("cells after refusals", restored, untouched, 4);
-    file[12] = '\n';
-    expect("a restoring", circuit_restore(table, 3, file, 52, restored, 4), 0, 3);
-    same_numbers("what is restored", restored, cells, 4);
-}
-
-/* The integrator, stopped after 1 and 2 and going on with 3 and 4 in other memory. */
-static void going_on(void) {
-    static const int32_t inputs[] = {1, 2, 3, 4}, samples[] = {1, 3, 6, 10}, controls[CIRCUIT_CONTROLS];
-    int32_t code[CIRCUIT_HEADER_NUMBERS + 3 * CIRCUIT_INSTRUCTION_NUMBERS + 1], cells[1], others[] = {7, 7}, outputs[4];
-    size_t numbers = sizeof code / sizeof *code;
-    uint8_t file[CIRCUIT_STATE_BYTES];
-    expect("its code", circuit_translate(integrator.table, 9, code, numbers), 0, (int32_t)numbers);
-    expect("its load", circuit_load(1, cells, 1), 0, 1);
-    expect("its first run", circuit_run(code, numbers, 2, inputs, 2, controls, 16, cells, 1, outputs, 2), 0, 2);
-    expect("its saving", circuit_save(integrator.table, 9, cells, 1, file, sizeof file), 0, 26);
-    expect("its restoring", circuit_restore(integrator.table, 9, file, 26, others, 2), 0, 1);
-    expect("its second run", circuit_run(code, numbers, 2, inputs + 2, 2, controls, 16, others, 1, outputs + 2, 2), 0, 2);
-    same_numbers("samples of a test that was stopped", outputs, samples, 4);
-    same("a cell past those restored", others[1], 7);
-}
-
-/* The table's refusals, and 11 for the 20,480 cells of five delays, before all others. */
-static void refused_states(void) {
-    static const int32_t loose[] = {5, 0, 0, 5, 0, 0};
-    static const int32_t five[] = {4, 4095, 0, 4, 4095, 0, 8, 0, 1, 4, 4095, 0, 8, 2, 3, 4, 4095, 0, 8, 4, 5, 4, 4095, 0, 8, 6, 7};
-    expect("a refused table to be saved", circuit_save(loose, 6, NULL, 0, NULL, 0), 9, 0);
-    expect("a refused table to be restored", circuit_restore(loose, 6, NULL, 0, NULL, 0), 9, 0);
-    expect("too many cells to be saved", circuit_save(five, 27, NULL, 0, NULL, 0), 11, -1);
-    expect("too many cells to be restored", circuit_restore(five, 27, NULL, 0, NULL, 0), 11, -1);
-}
-
 /* The four parts of an answer, each at its bits. */
 static void parts_of_an_answer(void) {
     uint64_t accepted = ((uint64_t)4096 << 48) | 131072, refused = ((uint64_t)9 << 32) | 7;
@@ -412,9 +352,6 @@ int main(void) {
     joins();
     too_many_joined();
     refused_joins();
-    states();
-    going_on();
-    refused_states();
     parts_of_an_answer();
     return failures != 0;
 }

@@ -19,13 +19,8 @@
 #define PAINT 0x0123456789abcdefu
 #define CRASHED SIZE_MAX
 
-/* Four delays side by side, with D = 4095 each: as many cells as there may be. */
-static const int32_t delays[] = {4, 4095, 0, 4, 4095, 0, 8, 0, 1, 4, 4095, 0, 8, 2, 3, 4, 4095, 0, 8, 4, 5};
-#define DELAYS_NUMBERS (sizeof delays / sizeof *delays)
-
 static int32_t table[CIRCUIT_TABLE_NUMBERS], again[CIRCUIT_TABLE_NUMBERS];
 static char file[CIRCUIT_FILE_BYTES + 64];
-static uint8_t state[CIRCUIT_STATE_BYTES + 1];
 static int32_t code[CIRCUIT_CODE_NUMBERS], translated[CIRCUIT_CODE_NUMBERS];
 static int32_t cells[CIRCUIT_CELLS], controls[CIRCUIT_CONTROLS], inputs[CIRCUIT_WIDTH] = {1}, outputs[CIRCUIT_WIDTH];
 static int32_t probes[CIRCUIT_PROBE_NUMBERS], latest[CIRCUIT_PROBES], recording[CIRCUIT_PROBES];
@@ -69,12 +64,6 @@ static void largest_code(void) {
         next[i] = CIRCUIT_WIDTH + i;
 }
 
-/* The state file of as many cells, each with as long a number as there may be. */
-static void largest_state(void) {
-    for (int line = 0; line <= CIRCUIT_CELLS; line++)
-        snprintf((char *)&state[13 * line], 14, "%12d\n", line == 0 ? CIRCUIT_CELLS : INT32_MIN);
-}
-
 /* Each call answers whether it did its work. */
 static int check(void) {
     return circuit_check(table, CIRCUIT_TABLE_NUMBERS, counts, CIRCUIT_COUNTS) == CIRCUIT_COUNTS && counts[0] == 1;
@@ -102,14 +91,6 @@ static int translate(void) {
 
 static int load(void) {
     return circuit_load(CIRCUIT_CELLS, cells, CIRCUIT_CELLS) == CIRCUIT_CELLS;
-}
-
-static int save(void) {
-    return circuit_save(delays, DELAYS_NUMBERS, cells, CIRCUIT_CELLS, state, CIRCUIT_STATE_BYTES) == CIRCUIT_STATE_BYTES;
-}
-
-static int restore(void) {
-    return circuit_restore(delays, DELAYS_NUMBERS, state, CIRCUIT_STATE_BYTES, cells, CIRCUIT_CELLS) == CIRCUIT_CELLS;
 }
 
 static int walk(void) {
@@ -145,8 +126,6 @@ static const struct entry entries[] = {
     {"join", join, CIRCUIT_STACK_JOIN},
     {"translate", translate, CIRCUIT_STACK_TRANSLATE},
     {"load", load, CIRCUIT_STACK_LOAD},
-    {"save", save, CIRCUIT_STACK_SAVE},
-    {"restore", restore, CIRCUIT_STACK_RESTORE},
     {"walk", walk, CIRCUIT_STACK_WALK},
     {"walk_probed", walk_probed, CIRCUIT_STACK_WALK},
     {"run", run, CIRCUIT_STACK_RUN},
@@ -219,7 +198,6 @@ int main(void) {
     deepest_circuit();
     most_probes();
     largest_code();
-    largest_state();
     for (size_t i = 0; i < sizeof entries / sizeof *entries; i++)
         failures += failed(&entries[i]);
     return failures != 0;

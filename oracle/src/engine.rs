@@ -76,10 +76,6 @@ pub trait Engine {
         second: &[u32],
         joined: &mut [u32],
     ) -> Result<u32, Refusal>;
-    /// E9: "Write the cells to a file".
-    fn save(&self, table: &[u32], cells: &[u32], file: &mut [u8]) -> Result<u32, Refusal>;
-    /// E9: "Reading it back needs the accepted table".
-    fn restore(&self, table: &[u32], file: &[u8], cells: &mut [u32]) -> Result<u32, Refusal>;
 }
 
 impl Refusal {

@@ -9,18 +9,15 @@ use crate::probes::{walk_by, wires, Recorder};
 use crate::samples::operate;
 
 /// What is known of a memory.
-#[derive(Clone)]
 enum Life {
     Unknown,
-    /// A load named so many cells, or a file of that state was restored, and nothing ran since.
+    /// A load named so many cells and nothing ran since.
     Cleared(usize),
-    /// The cells are those of a table after a history that began with a load. E9: "the reading takes
-    /// the place of the load, the history going on from the saving".
+    /// The cells are those of a table after a history that began with a load.
     Told(Vec<u32>, Box<Meaning>),
 }
 
 /// One memory's past.
-#[derive(Clone)]
 pub struct Past(Life);
 
 impl Default for Past {
@@ -160,20 +157,6 @@ impl Past {
         }
     }
 
-    /// Whether the cells are those of this table after a history.
-    pub fn tells(&self, table: &[u32]) -> bool {
-        matches!(&self.0, Life::Told(known, _) if known == table)
-    }
-
-    /// What a file keeps that is saved now: "saved after a load and nothing but runs of that table's
-    /// code", of so many cells.
-    pub fn kept(&self, table: &[u32], cells: usize) -> Option<Past> {
-        match self.0 {
-            Life::Cleared(many) if many >= cells => Some(Past(Life::Cleared(cells))),
-            _ => self.tells(table).then(|| self.clone()),
-        }
-    }
-
     pub fn forget(&mut self) {
         self.0 = Life::Unknown;
     }
@@ -187,8 +170,8 @@ fn worked(counts: &Counts, block: &Block, clipped: u32) -> Worked {
     }
 }
 
-/// A table that the walker takes, and saving and restoring: the table's rows, then row 11.
-pub fn walkable(table: &[u32]) -> Result<Checked, Refusal> {
+/// A table that the walker takes: the table's rows, then row 11.
+fn walkable(table: &[u32]) -> Result<Checked, Refusal> {
     let checked = check(table)?;
     if checked.counts.cells as usize > MOST_CELLS {
         return Err(Refusal::nowhere(11));

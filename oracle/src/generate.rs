@@ -12,21 +12,18 @@ use crate::probe_cases::probed_case;
 use crate::random::Random;
 use crate::random_codes::{operands_case, random_code_case};
 use crate::script::Command;
-use crate::state_cases::state_case;
 
 /// The commands of so many cases.
 pub fn generate(seed: u64, cases: usize) -> Vec<Command> {
     let mut random = Random::new(seed);
-    // Joins and states have random numbers of their own, by which no other case is another.
+    // Joins have random numbers of their own, by which no other case is another.
     let mut for_joins = Random::new(!seed);
-    let mut for_states = Random::new(!seed.rotate_left(32));
     let mut others = 0..;
     let mut commands = Vec::new();
     for number in 0..cases {
-        let (kind, case) = match (number % 15, number % 20) {
-            (7, _) => ("joins", join_case(&mut for_joins)),
-            (_, 11) => ("states", state_case(&mut for_states, number / 20)),
-            _ => one(&mut random, others.next().expect("a number")),
+        let (kind, case) = match number % 15 == 7 {
+            true => ("joins", join_case(&mut for_joins)),
+            false => one(&mut random, others.next().expect("a number")),
         };
         commands.push(Command::Title(format!("case {number}: {kind}")));
         commands.extend(case);
@@ -34,7 +31,7 @@ pub fn generate(seed: u64, cases: usize) -> Vec<Command> {
     commands
 }
 
-/// A case of the default mix that has neither a join nor a state.
+/// A case of the default mix that has no join.
 fn one(random: &mut Random, number: usize) -> (&'static str, Vec<Command>) {
     if number % 1000 == 500 {
         return ("many nodes", nodes_case(random, number % 2000 == 500));

@@ -1,12 +1,10 @@
 //! Another implementation of the document: circuits as signals over time, and from them the
 //! expected output of scripts that are played on the proved entries.
 
-pub mod actors;
 pub mod amounts;
 pub mod arity;
 pub mod bad_codes;
 pub mod bad_files;
-pub mod bad_states;
 pub mod bad_tables;
 pub mod circuits;
 pub mod clip_cases;
@@ -33,6 +31,4 @@ pub mod random_codes;
 pub mod samples;
 pub mod scene;
 pub mod script;
-pub mod state;
-pub mod state_cases;
 pub mod translate;

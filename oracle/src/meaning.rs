@@ -7,7 +7,6 @@ use crate::probes::Wire;
 use crate::samples::{amount, clipped, operate};
 use std::collections::BTreeSet;
 
-#[derive(Clone)]
 pub struct Meaning {
     graph: Graph,
     cell_count: usize,

@@ -92,7 +92,7 @@ impl Wires {
 
 /// Bodies in bodies whose clocks are inputs: a clock within may be a demand where the one around it
 /// is none.
-pub fn nested(random: &mut Random) -> Circuit {
+fn nested(random: &mut Random) -> Circuit {
     loop {
         let (inputs, outputs) = (random.below(3), random.pick(&[0, 1, 1, 1, 2]));
         let size = 1 + random.below(8);
@@ -253,13 +253,6 @@ fn refused(
     case.push(Command::Probes(named.to_vec()));
 }
 
-/// A walk with probes of the circuit, on a list that is set to 0, with controls of its own.
-pub fn watched(random: &mut Random, circuit: &Circuit, ticks: usize, case: &mut Vec<Command>) {
-    let named = Wires::of(circuit).named(random);
-    case.push(Command::Latest(vec![0; named.len() / 2]));
-    Call::new(random, circuit, &named, ticks).play(case);
-}
-
 pub fn probed_case(random: &mut Random) -> Vec<Command> {
     let (circuit, wires) = demanding(random);
     let cells = circuit.counts.cells as usize;
@@ -272,9 +265,7 @@ pub fn probed_case(random: &mut Random) -> Vec<Command> {
     set_list(random, &mut case);
     case.push(Command::Probes(named.clone()));
     for _ in 0..1 + random.below(4) {
-        // A long block's inputs lie within a piece of the script.
-        let long = named.len() < 4 && random.percent(1) && circuit.counts.inputs <= 3;
-        let ticks = match long {
+        let ticks = match named.len() < 4 && random.percent(1) {
             true => random.pick(&[300, 1000, 4096]),
             false => ticks(random),
         };

@@ -1,17 +1,139 @@
 //! A scene on which commands are performed: what they set, and what they print. The same
 //! scene serves the oracle and an engine under test.
 
-use crate::actors::{Actor, Answer, Oracle, Work};
 use crate::arity;
-use crate::engine::{Block, Probes, Refusal};
+use crate::column;
+use crate::engine::{Block, Counts, Engine, Probes, Refusal, Worked};
+use crate::entries::Past;
 use crate::flat::{HEADER, MOST_CODE, WIDTH};
+use crate::join;
 use crate::programs::played;
 use crate::script::{list, Command, Lent};
+use crate::translate;
 
 /// "There are two memories of 17,000 cells each, one for walks and one for runs."
 const MEMORY: usize = 17000;
 /// "the list has 40 numbers, all 0 at the beginning"
 const LATEST: usize = 40;
+
+type Answer = Result<u32, Refusal>;
+type Work = Result<Worked, Refusal>;
+
+/// Whoever answers the calls of a scene.
+pub trait Actor {
+    fn check(&mut self, table: &[u32]) -> Result<Counts, Refusal>;
+    fn read(&mut self, file: &[u8], table: &mut [u32]) -> Answer;
+    fn write(&mut self, table: &[u32], file: &mut [u8]) -> Answer;
+    fn translate(&mut self, table: &[u32], code: &mut [u32]) -> Answer;
+    /// A load on the walks' memory (0) or the runs' (1).
+    fn load(&mut self, memory: usize, named: u32, cells: &mut [u32]) -> Answer;
+    fn walk(&mut self, table: &[u32], block: &Block, cells: &mut [u32], out: &mut [u32]) -> Work;
+    fn walk_probed(
+        &mut self,
+        table: &[u32],
+        block: &Block,
+        cells: &mut [u32],
+        out: &mut [u32],
+        probes: &mut Probes,
+    ) -> Work;
+    fn run(&mut self, code: &[u32], block: &Block, cells: &mut [u32], out: &mut [u32]) -> Work;
+    fn join(&mut self, kind: u32, first: &[u32], second: &[u32], joined: &mut [u32]) -> Answer;
+    /// Both memories were set by the script.
+    fn forget(&mut self) {}
+}
+
+/// An engine under test.
+pub struct Live<'a, E: Engine>(pub &'a E);
+
+impl<E: Engine> Actor for Live<'_, E> {
+    fn check(&mut self, table: &[u32]) -> Result<Counts, Refusal> {
+        self.0.check(table)
+    }
+    fn read(&mut self, file: &[u8], table: &mut [u32]) -> Answer {
+        self.0.read(file, table)
+    }
+    fn write(&mut self, table: &[u32], file: &mut [u8]) -> Answer {
+        self.0.write(table, file)
+    }
+    fn translate(&mut self, table: &[u32], code: &mut [u32]) -> Answer {
+        self.0.translate(table, code)
+    }
+    fn load(&mut self, _memory: usize, named: u32, cells: &mut [u32]) -> Answer {
+        self.0.load(named, cells)
+    }
+    fn walk(&mut self, table: &[u32], block: &Block, cells: &mut [u32], out: &mut [u32]) -> Work {
+        self.0.walk(table, block, cells, out)
+    }
+    fn walk_probed(
+        &mut self,
+        table: &[u32],
+        block: &Block,
+        cells: &mut [u32],
+        out: &mut [u32],
+        probes: &mut Probes,
+    ) -> Work {
+        self.0.walk_probed(table, block, cells, out, probes)
+    }
+    fn run(&mut self, code: &[u32], block: &Block, cells: &mut [u32], out: &mut [u32]) -> Work {
+        self.0.run(code, block, cells, out)
+    }
+    fn join(&mut self, kind: u32, first: &[u32], second: &[u32], joined: &mut [u32]) -> Answer {
+        self.0.join(kind, first, second, joined)
+    }
+}
+
+/// The oracle; it knows each memory's past and the tables and codes of the translations.
+#[derive(Default)]
+pub struct Oracle {
+    pasts: [Past; 2],
+    translated: Vec<(Vec<u32>, Vec<u32>)>,
+}
+
+impl Actor for Oracle {
+    fn check(&mut self, table: &[u32]) -> Result<Counts, Refusal> {
+        arity::check(table).map(|checked| checked.counts)
+    }
+    fn read(&mut self, file: &[u8], table: &mut [u32]) -> Answer {
+        column::read(file, table)
+    }
+    fn write(&mut self, table: &[u32], file: &mut [u8]) -> Answer {
+        column::write(table, file)
+    }
+    fn translate(&mut self, table: &[u32], code: &mut [u32]) -> Answer {
+        let length = translate::translate(table, code)?;
+        let code = code[..length as usize].to_vec();
+        self.translated.push((table.to_vec(), code));
+        Ok(length)
+    }
+    fn load(&mut self, memory: usize, named: u32, cells: &mut [u32]) -> Answer {
+        self.pasts[memory].load(named, cells)
+    }
+    fn walk(&mut self, table: &[u32], block: &Block, cells: &mut [u32], out: &mut [u32]) -> Work {
+        self.pasts[0].walk(table, block, cells, out)
+    }
+    fn walk_probed(
+        &mut self,
+        table: &[u32],
+        block: &Block,
+        cells: &mut [u32],
+        out: &mut [u32],
+        probes: &mut Probes,
+    ) -> Work {
+        self.pasts[0].walk_probed(table, block, cells, out, probes)
+    }
+    fn run(&mut self, code: &[u32], block: &Block, cells: &mut [u32], out: &mut [u32]) -> Work {
+        let known = self.translated.iter().find(|(_, of)| of == code);
+        let table = known.map(|(table, _)| table.as_slice());
+        self.pasts[1].run(code, table, block, cells, out)
+    }
+    fn join(&mut self, kind: u32, first: &[u32], second: &[u32], joined: &mut [u32]) -> Answer {
+        join::join(kind, first, second, joined)
+    }
+    fn forget(&mut self) {
+        self.pasts.iter_mut().for_each(Past::forget);
+        self.translated.clear();
+    }
+}
 
 struct Scene {
     table: Vec<u32>,
@@ -27,14 +149,24 @@ struct Scene {
 
 /// Performs the commands and gives what they print.
 pub fn perform(commands: &[Command], actor: &mut impl Actor) -> String {
-    Scene::new().perform(commands, actor)
-}
-
-/// The file that the commands leave to a script, by the oracle.
-pub fn file_after(commands: &[Command]) -> Vec<u8> {
-    let mut scene = Scene::new();
-    scene.perform(commands, &mut Oracle::default());
-    scene.file
+    let mut scene = Scene {
+        table: vec![],
+        second: vec![],
+        code: vec![],
+        inputs: vec![],
+        controls: vec![],
+        file: vec![],
+        memories: [vec![0; MEMORY], vec![0; MEMORY]],
+        probes: vec![],
+        latest: vec![0; LATEST],
+    };
+    let mut printed = String::new();
+    for command in commands {
+        if !scene.set(command, actor) {
+            printed.push_str(&scene.call(command, actor));
+        }
+    }
+    printed
 }
 
 fn answer(answer: &Answer) -> String {
@@ -57,30 +189,6 @@ fn refused(refusal: &Refusal) -> String {
 }
 
 impl Scene {
-    fn new() -> Scene {
-        Scene {
-            table: vec![],
-            second: vec![],
-            code: vec![],
-            inputs: vec![],
-            controls: vec![],
-            file: vec![],
-            memories: [vec![0; MEMORY], vec![0; MEMORY]],
-            probes: vec![],
-            latest: vec![0; LATEST],
-        }
-    }
-
-    fn perform(&mut self, commands: &[Command], actor: &mut impl Actor) -> String {
-        let mut printed = String::new();
-        for command in commands {
-            if !self.set(command, actor) {
-                printed.push_str(&self.call(command, actor));
-            }
-        }
-        printed
-    }
-
     /// The commands that print nothing; false for any other.
     fn set(&mut self, command: &Command, actor: &mut impl Actor) -> bool {
         match command {
@@ -90,8 +198,6 @@ impl Scene {
             Command::Inputs(numbers) => self.inputs.clone_from(numbers),
             Command::Controls(numbers) => self.controls.clone_from(numbers),
             Command::File(bytes) => self.file.clone_from(bytes),
-            Command::Byte(at, value) => self.put(*at, *value),
-            Command::Cut(bytes) => self.file.truncate(*bytes),
             Command::Probes(numbers) => self.probes.clone_from(numbers),
             Command::Latest(numbers) => self.latest[..numbers.len()].copy_from_slice(numbers),
             Command::Memory(value) => {
@@ -110,8 +216,6 @@ impl Scene {
             Command::Write(length) => self.write(length, actor),
             Command::Translate(length) => self.translate(length, actor),
             Command::Join(kind, length) => self.join(kind, length, actor),
-            Command::Save(memory, lent, length) => self.save(memory, lent, length, actor),
-            Command::Restore(lent) => self.restore(lent, actor),
             Command::Print => self.print(actor),
             Command::Play => played(&self.file),
             Command::Load(named, lent) => {
@@ -189,35 +293,6 @@ impl Scene {
             self.table = buffer[..numbers as usize].to_vec();
         }
         format!("join {} |{}\n", answer(&joined), list(&buffer))
-    }
-
-    /// "AT equal to the file's length makes the file one byte longer; a larger AT does nothing"
-    fn put(&mut self, at: usize, value: u8) {
-        if at == self.file.len() {
-            self.file.push(value);
-        } else if let Some(byte) = self.file.get_mut(at) {
-            *byte = value;
-        }
-    }
-
-    /// From the walks' memory where `memory` is 0, else from the runs'.
-    fn save(&mut self, memory: u32, lent: usize, length: usize, actor: &mut impl Actor) -> String {
-        let mut buffer = vec![b'.'; length];
-        let memory = usize::from(memory != 0);
-        let cells = &self.memories[memory][..lent];
-        let saved = actor.save(memory, &self.table, cells, &mut buffer);
-        if let Ok(bytes) = saved {
-            self.file = buffer[..bytes as usize].to_vec();
-        }
-        let text = String::from_utf8_lossy(&buffer);
-        format!("save {} |\n{text}\n", answer(&saved))
-    }
-
-    fn restore(&mut self, lent: usize, actor: &mut impl Actor) -> String {
-        let [walks, runs] = &mut self.memories;
-        let walked = actor.restore(0, &self.table, &self.file, &mut walks[..lent]);
-        let ran = actor.restore(1, &self.table, &self.file, &mut runs[..lent]);
-        format!("restore {} {}\n", answer(&walked), answer(&ran))
     }
 
     fn probed(&mut self, lent: &Lent, actor: &mut impl Actor) -> String {

@@ -1,8 +1,7 @@
 //! Scripts: their commands, their text, and what they print.
 
-use crate::actors::{Live, Oracle};
 use crate::engine::Engine;
-use crate::scene::perform;
+use crate::scene::{perform, Live, Oracle};
 
 /// "A script is played in pieces of 65,536 bytes."
 pub const PIECE: usize = 65536;
@@ -17,10 +16,6 @@ pub enum Command {
     Inputs(Vec<u32>),
     Controls(Vec<u32>),
     File(Vec<u8>),
-    /// A place of the file, and the byte that stands there from then on.
-    Byte(usize, u8),
-    /// So many bytes are left of the file.
-    Cut(usize),
     Memory(u32),
     Check,
     Read(usize),
@@ -28,10 +23,6 @@ pub enum Command {
     Translate(usize),
     /// The kind of the joining node, the length of the buffer.
     Join(u32, usize),
-    /// Which memory, the count of lent cells, the length of the buffer.
-    Save(u32, usize, usize),
-    /// The count of lent cells.
-    Restore(usize),
     Print,
     Play,
     /// The named count of cells, the count of lent ones.
@@ -104,18 +95,12 @@ fn render_one(command: &Command) -> Vec<u8> {
         Command::Inputs(numbers) => format!("inputs{}\n", list(numbers)),
         Command::Controls(numbers) => format!("controls{}\n", list(numbers)),
         Command::File(bytes) => format!("file {}\n", bytes.len()),
-        Command::Byte(at, value) => format!("byte {at} {value}\n"),
-        Command::Cut(bytes) => format!("cut {bytes}\n"),
         Command::Memory(value) => format!("memory {}\n", *value as i32),
         Command::Check => "check\n".to_string(),
         Command::Read(length) => format!("read {length}\n"),
         Command::Write(length) => format!("write {length}\n"),
         Command::Translate(length) => format!("translate {length}\n"),
         Command::Join(kind, length) => format!("join {} {length}\n", *kind as i32),
-        Command::Save(memory, lent, length) => {
-            format!("save {} {lent} {length}\n", *memory as i32)
-        }
-        Command::Restore(lent) => format!("restore {lent}\n"),
         Command::Print => "print\n".to_string(),
         Command::Play => "play\n".to_string(),
         Command::Load(named, lent) => format!("load {} {lent}\n", *named as i32),

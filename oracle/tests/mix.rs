@@ -1,5 +1,5 @@
 //! What the default mix holds: every refusal, every kind, bodies that demands reach, tables with
-//! several loose nodes, delays that are clipped, recursions that feed nothing back, joins, and states.
+//! several loose nodes, delays that are clipped, recursions that feed nothing back, and joins.
 
 mod flat;
 mod found;
@@ -8,7 +8,6 @@ mod watched;
 use found::feedback::Feedback;
 use found::joined;
 use found::joins::Joins;
-use found::states::States;
 use oracle::arity::{check, Node};
 use oracle::column::parse;
 use oracle::generate::generate;
@@ -23,7 +22,7 @@ use watched::clips::Clips;
 #[test]
 fn refusals() {
     let printed = expected(&generate(1, 3000));
-    for number in 1..=18 {
+    for number in 1..=17 {
         let answer = format!("refused {number} ");
         let times = printed.matches(&answer).count();
         println!("refusal {number}: {times}");
@@ -359,15 +358,6 @@ fn joins() {
     assert!(seen.holds());
 }
 
-/// E9: states of every content that are saved, restored and gone on with, mostly by the meaning over
-/// the whole history; each refusal of both entries, alone and with others at once.
-#[test]
-fn states() {
-    let seen = States::of(&generate(1, 3000));
-    seen.print();
-    assert!(seen.holds());
-}
-
 /// A case does not depend on earlier ones.
 #[test]
 fn cases_stand_alone() {
@@ -386,11 +376,9 @@ fn maxima() {
             Command::Code(numbers) => numbers.len() <= 13000,
             Command::Inputs(numbers) => numbers.len() <= 131200,
             Command::Controls(numbers) => numbers.len() <= 32,
-            Command::File(bytes) => bytes.len() <= 65536,
+            Command::File(bytes) => bytes.len() <= 21100,
             Command::Read(length) | Command::Join(_, length) => length <= 2000,
-            Command::Write(length) => length <= 213100,
-            Command::Save(_, lent, length) => lent <= 17000 && length <= 213100,
-            Command::Restore(lent) => lent <= 17000,
+            Command::Write(length) => length <= 21100,
             Command::Translate(length) => length <= 13000,
             Command::Load(_, lent) | Command::Cells(lent) => lent <= 17000,
             Command::Walk(_, lent, out) | Command::Run(_, lent, out) => {

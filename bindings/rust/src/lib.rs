@@ -1,4 +1,4 @@
-//! Faust circuits on 32-bit integer samples: node tables, column files, flat code, walker, runner and state files.
+//! Faust circuits on 32-bit integer samples: node tables, column files, flat code, walker and runner.
 //!
 //! A safe wrapper of the proved engine. What each function does is proved for all numbers in the slices; the contracts
 //! are in `crates/circuit/src/lib.rt`. The numbers of tables, codes, cells and samples are `i32`, since a sample is a
@@ -46,8 +46,6 @@ pub const INSTRUCTION_NUMBERS: usize = 6;
 pub const CODE_NUMBERS: usize = HEADER_NUMBERS + INSTRUCTION_NUMBERS * INSTRUCTIONS + WIDTH;
 /// Most cells.
 pub const CELLS: usize = 16384;
-/// Most bytes of a state file, 13 for each line: the count's and one for each cell.
-pub const STATE_BYTES: usize = 13 + 13 * CELLS;
 /// Most ticks of one call.
 pub const TICKS: usize = 4096;
 /// Controls of a call, exactly so many.
@@ -76,15 +74,11 @@ pub const STACK_READ: usize = 16 * 1024;
 pub const STACK_WRITE: usize = 16 * 1024;
 /// The same for [`load`].
 pub const STACK_LOAD: usize = 16 * 1024;
-/// The same for [`save`].
-pub const STACK_SAVE: usize = 24 * 1024;
-/// The same for [`restore`].
-pub const STACK_RESTORE: usize = 24 * 1024;
 
 /// Why a call was refused, and where.
 #[derive(Clone, Copy, Debug, PartialEq, Eq, Hash)]
 pub struct Refusal {
-    /// 1 to 18, as the document numbers them.
+    /// 1 to 17, as the document numbers them.
     pub number: u32,
     /// The line or node for refusals 1 to 9, the node for 16, else -1.
     pub place: i32,
@@ -111,7 +105,6 @@ impl Refusal {
             15 => "an odd count of probe numbers, more than 16 probes, or one that names no output of the table",
             16 => "a recursion whose right side has neither inputs nor outputs",
             17 => "two tables to be joined whose nodes and the joining one are more than 512",
-            18 => "a file that is no state file of as many cells as the table has",
             _ => "no refusal of the document",
         }
     }
@@ -242,50 +235,11 @@ pub fn translate(table: &[i32], code: &mut [i32]) -> Result<usize, Refusal> {
     decoded(sys::translate(table, code))
 }
 
-/// Sets the first `named` cells to 0 and touches no others; gives `named`. A circuit starts from cells that were loaded with at least its count, and goes on from cells that were [restored](restore).
+/// Sets the first `named` cells to 0 and touches no others; gives `named`. A circuit starts from cells that were loaded with at least its count.
 ///
 /// Refusals: 11; 12.
 pub fn load(named: u32, cells: &mut [i32]) -> Result<usize, Refusal> {
     decoded(sys::load(named, cells))
-}
-
-/// Saves a test in progress: writes the table's cells as a state file; gives the count of bytes, 13 a line.
-///
-/// The first line has the count of cells, each further line one cell: a number in 12 columns and a line feed. `cells` holds
-/// at least the table's count; what lies behind that is not looked at. [`restore`] reads it back.
-///
-/// Refusals: the table's; 11; 12. The table's are those of [`check`]; 12 is also for fewer cells than the table has, which are
-/// read here and not written.
-pub fn save(table: &[i32], cells: &[i32], file: &mut [u8]) -> Result<usize, Refusal> {
-    decoded(sys::save(table, cells, file))
-}
-
-/// Restores what [`save`] has written: sets the table's cells to those of the file and touches no others; gives their count.
-///
-/// It takes the place of a [`load`]: if the file was saved after a load and nothing but walks and runs of the same circuit, the
-/// history goes on from the saving, and later samples and reports are those of a test that was never stopped, in the same
-/// memory or any other. Only [`walk_probed`] still needs a load itself: its list is not in the file. A position of a delay that
-/// lies outside its ring is restored as it is.
-///
-/// ```
-/// // the integrator: 1 2 before the line stops, 3 4 after it
-/// let (table, controls) = ([3, 1, 0, 5, 0, 0, 11, 0, 1], [0; circuit::CONTROLS]);
-/// let (mut cells, mut outputs) = ([0; 1], [0; 2]);
-/// circuit::walk(&table, 2, &[1, 2], &controls, &mut cells, &mut outputs)?;
-/// let mut file = [0; circuit::STATE_BYTES];
-/// let bytes = circuit::save(&table, &cells, &mut file)?;
-/// assert_eq!(&file[..bytes], b"           1\n           3\n");
-///
-/// let mut cells = [7; 1]; // another circuit has used the memory
-/// circuit::restore(&table, &file[..bytes], &mut cells)?;
-/// circuit::walk(&table, 2, &[3, 4], &controls, &mut cells, &mut outputs)?;
-/// assert_eq!(outputs, [6, 10]);
-/// # Ok::<(), circuit::Refusal>(())
-/// ```
-///
-/// Refusals: the table's; 11; 18; 12. The table's are those of [`check`].
-pub fn restore(table: &[i32], file: &[u8], cells: &mut [i32]) -> Result<usize, Refusal> {
-    decoded(sys::restore(table, file, cells))
 }
 
 /// Walks a table for a block of ticks; gives the count of output samples, and that of the ticks with a clipped delay.

@@ -18,22 +18,6 @@ extern "C" {
     ) -> u64;
     fn circuit_translate(table: *const i32, numbers: usize, code: *mut i32, length: usize) -> u64;
     fn circuit_load(named: u32, cells: *mut i32, length: usize) -> u64;
-    fn circuit_save(
-        table: *const i32,
-        numbers: usize,
-        cells: *const i32,
-        cells_length: usize,
-        file: *mut u8,
-        bytes: usize,
-    ) -> u64;
-    fn circuit_restore(
-        table: *const i32,
-        numbers: usize,
-        file: *const u8,
-        bytes: usize,
-        cells: *mut i32,
-        cells_length: usize,
-    ) -> u64;
     fn circuit_walk(
         table: *const i32,
         numbers: usize,
@@ -121,32 +105,6 @@ pub fn translate(table: &[i32], code: &mut [i32]) -> u64 {
 
 pub fn load(named: u32, cells: &mut [i32]) -> u64 {
     unsafe { circuit_load(named, cells.as_mut_ptr(), cells.len()) }
-}
-
-pub fn save(table: &[i32], cells: &[i32], file: &mut [u8]) -> u64 {
-    unsafe {
-        circuit_save(
-            table.as_ptr(),
-            table.len(),
-            cells.as_ptr(),
-            cells.len(),
-            file.as_mut_ptr(),
-            file.len(),
-        )
-    }
-}
-
-pub fn restore(table: &[i32], file: &[u8], cells: &mut [i32]) -> u64 {
-    unsafe {
-        circuit_restore(
-            table.as_ptr(),
-            table.len(),
-            file.as_ptr(),
-            file.len(),
-            cells.as_mut_ptr(),
-            cells.len(),
-        )
-    }
 }
 
 /// What a call of walker or runner lends.

@@ -47,7 +47,7 @@ fn probed(
     samples(answer)
 }
 
-/// The answer of check, translator, walker, saving and restoring to a refused table.
+/// The answer of check, translator and walker to a refused table.
 fn unchecked(nodes: &[[i32; 3]]) -> Result<usize, Refusal> {
     let table = nodes.concat();
     let (mut code, mut cells, mut outputs) = ([9; 99], [9; 99], [9; 99]);
@@ -57,8 +57,6 @@ fn unchecked(nodes: &[[i32; 3]]) -> Result<usize, Refusal> {
     assert_eq!(samples(walked), answer);
     assert_eq!((code, cells, outputs), ([9; 99], [9; 99], [9; 99]));
     assert_eq!(probed(&table, &[0], 4097, &[], [0; 4]), answer);
-    assert_eq!(circuit::save(&table, &[], &mut []), answer);
-    assert_eq!(circuit::restore(&table, &[], &mut []), answer);
     answer
 }
 
@@ -389,10 +387,6 @@ fn empty_slices() {
     assert_eq!(circuit::translate(&number, &mut []), refusal(12, -1));
     assert_eq!(circuit::load(0, &mut []), Ok(0));
     assert_eq!(circuit::load(1, &mut []), refusal(12, -1));
-    assert_eq!(circuit::save(&[], &[], &mut []), refusal(3, 0));
-    assert_eq!(circuit::save(&number, &[], &mut []), refusal(12, -1));
-    assert_eq!(circuit::restore(&[], &[], &mut []), refusal(3, 0));
-    assert_eq!(circuit::restore(&number, &[], &mut []), refusal(18, -1));
     let nothing = Worked {
         samples: 0,
         clipped: 0,
@@ -432,9 +426,5 @@ fn printed() {
     assert_eq!(
         printed(17, -1),
         "refusal 17: two tables to be joined whose nodes and the joining one are more than 512"
-    );
-    assert_eq!(
-        printed(18, -1),
-        "refusal 18: a file that is no state file of as many cells as the table has"
     );
 }

@@ -1,4 +1,4 @@
-//! What is said of a refusal, in docs/FORMAT.md, is said in the same words in README.md, in the C header, at the engine's enums
+//! What is said of a refusal, in docs/FORMAT.md, is said in the same words in README.md, in the C header, at the engine's enum
 //! and by this package, and so is the order of each call's refusals; and the header's limits are this package's.
 use circuit::Refusal;
 
@@ -50,9 +50,9 @@ fn upper(name: &str) -> String {
 }
 
 #[test]
-fn numbered_from_1_to_18() {
+fn numbered_from_1_to_17() {
     let numbers: Vec<u32> = rows().into_iter().map(|(number, _, _)| number).collect();
-    assert_eq!(numbers, (1..=18).collect::<Vec<_>>());
+    assert_eq!(numbers, (1..=17).collect::<Vec<_>>());
 }
 
 /// By the place where they are looked for, so in another order.
@@ -87,29 +87,24 @@ fn in_the_header() {
     assert_eq!(header, rows());
 }
 
-/// The variants of an enum that have a number before their words.
-fn variants(name: &str) -> Vec<Row> {
-    let body = between(ENUM, &format!("pub enum {name} {{\n"), "\n}");
-    let lines: Vec<&str> = body.lines().map(str::trim).collect();
-    let numbered = |pair: &[&str]| {
-        let comment = pair[0].strip_prefix("// ").expect(pair[0]);
-        let (number, words) = comment.split_once(": ")?;
-        let name = pair[1].trim_end_matches(',').trim_end_matches("(u32)");
-        Some((number.parse().expect(comment), upper(name), words.into()))
-    };
-    lines.chunks(2).filter_map(numbered).collect()
-}
-
-/// Those of the call as a whole, which have no place, are an enum of their own, and one variant of the other.
 #[test]
-fn at_the_enums() {
-    let (faults, others) = (variants("Fault"), variants("Refusal"));
-    let (placeless, placed): (Vec<_>, Vec<_>) =
-        table().into_iter().partition(|(_, place)| place == "-1");
-    let rows =
-        |table: Vec<(Row, String)>| table.into_iter().map(|(row, _)| row).collect::<Vec<_>>();
-    assert_eq!(faults, rows(placeless));
-    assert_eq!(others, rows(placed));
+fn at_the_enum() {
+    let lines: Vec<&str> = between(ENUM, "pub enum Refusal {\n", "\n}")
+        .lines()
+        .collect();
+    let variants: Vec<Row> = lines
+        .chunks(2)
+        .map(|pair| {
+            let comment = pair[0].trim().strip_prefix("// ").expect(pair[0]);
+            let (number, words) = comment.split_once(": ").expect(comment);
+            let name = pair[1]
+                .trim()
+                .trim_end_matches(',')
+                .trim_end_matches("(u32)");
+            (number.parse().expect(comment), upper(name), words.into())
+        })
+        .collect();
+    assert_eq!(variants, rows());
 }
 
 #[test]
@@ -153,7 +148,7 @@ fn said<'a>(text: &'a str, entry: &str) -> &'a str {
 #[test]
 fn orders_of_the_calls() {
     let package = include_str!("../src/lib.rs");
-    assert_eq!(orders().len(), 11);
+    assert_eq!(orders().len(), 9);
     for (entry, order) in orders() {
         // The exported check fills a buffer.
         let exported = match entry.as_str() {
@@ -194,7 +189,6 @@ fn limits() {
         ("INSTRUCTION_NUMBERS", circuit::INSTRUCTION_NUMBERS),
         ("CODE_NUMBERS", circuit::CODE_NUMBERS),
         ("CELLS", circuit::CELLS),
-        ("STATE_BYTES", circuit::STATE_BYTES),
         ("TICKS", circuit::TICKS),
         ("CONTROLS", circuit::CONTROLS),
         ("PROBES", circuit::PROBES),
@@ -208,8 +202,6 @@ fn limits() {
         ("STACK_READ", circuit::STACK_READ),
         ("STACK_WRITE", circuit::STACK_WRITE),
         ("STACK_LOAD", circuit::STACK_LOAD),
-        ("STACK_SAVE", circuit::STACK_SAVE),
-        ("STACK_RESTORE", circuit::STACK_RESTORE),
     ] {
         assert_eq!(value, defined(name), "{name}");
     }

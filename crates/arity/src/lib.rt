@@ -1,4 +1,6 @@
 // The arity check: which tables are circuits, and the counts of their nodes.
+#![tactic(auto)]
+
 mod children;
 mod counts;
 pub mod fields;

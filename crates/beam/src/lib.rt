@@ -1,4 +1,6 @@
 // Beams by value: of the 32 places of an array the first so many count, and the rest is whatever it is.
+#![tactic(auto)]
+
 ghost use Rattle.std.specs.Prelude.{◌≡◌, [], ◌∷◌, ◌++◌, ℕ, ◌+◌, ◌-◌, ◌*◌, ◌≤◌, length, get_or, take, drop};
 ghost use Rattle.word.specs.Limits.{widest};
 ghost use Rattle.signal.specs.Signal.{copies, sum_from, sums};

@@ -15,7 +15,7 @@ use Rattle.calls.specs.Calls.{Program, Element, OthersRefused}
 use Rattle.calls.specs.Law.{IsProgramOf, LawfulThroughout}
 use Rattle.calls.proofs.Law.{holds_around}
 use Rattle.calls.proofs.Throughout.{from_past}
-use Rattle.calls.proofs.Loads.{from-load}
+use Rattle.calls.proofs.Loads.{from_load}
 
 module _ (n : ℕ) (t : Tree) (w : WellFormed t) (c : Complete n t) (work : Program) (same : IsProgramOf n t work) where
   abbrev N : ℕ
@@ -24,7 +24,7 @@ module _ (n : ℕ) (t : Tree) (w : WellFormed t) (c : Complete n t) (work : Prog
   -- a load that named just the circuit's cells
   just_loaded : (cells : List ℕ) → (loaded N cells).answer ≡ count N → (list : List Element) → OthersRefused work 0 (loaded N cells).buffer list
       → LawfulThroughout n t work 0 [] (loaded N cells).buffer list
-  just_loaded cells e = from-load n t w c work same N (omega arith) N cells e (omega arith)
+  just_loaded cells e = from_load n t w c work same N (omega arith) N cells e (omega arith)
 
   -- the cells of any past, with others before and behind them
   anywhere : (front behind : List ℕ) (past : History) (list : List Element) → OthersRefused work (length front) (front ++ (cells_after n t past ++ behind)) list

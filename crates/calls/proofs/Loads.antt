@@ -29,9 +29,9 @@ data LoadEnd (named : ℕ) (cells : List ℕ) : Outcome → Type 0 where
   clears : LoadEnd named cells (outcome (count named) (zeros named ++ drop named cells))
   refuses : (x : ℕ) → LoadEnd named cells (outcome (refused_all x) cells)
 
-load-end : (named : ℕ) (cells : List ℕ) → LoadEnd named cells (loaded named cells)
+load_end : (named : ℕ) (cells : List ℕ) → LoadEnd named cells (loaded named cells)
 unfolding loaded
-load-end named cells = go (leb named 16384) (leb named (length cells))
+load_end named cells = go (leb named 16384) (leb named (length cells))
   where
     go : (a b : Bool) → LoadEnd named cells (pick a (pick b (outcome (count named) (zeros named ++ drop named cells)) (outcome (refused_all 12) cells)) (outcome (refused_all 11) cells))
     go true true = clears
@@ -45,25 +45,25 @@ first-zeros k n xs h =
 
 -- a load that named at least k has cleared the first k cells
 cleared : (named : ℕ) (cells : List ℕ) → (loaded named cells).answer ≡ count named → (k : ℕ) → k ≤ named → take k (loaded named cells).buffer ≡ zeros k
-cleared named cells e k h = go (loaded named cells) (load-end named cells) e
+cleared named cells e k h = go (loaded named cells) (load_end named cells) e
   where
     go : (l : Outcome) → LoadEnd named cells l → l.answer ≡ count named → take k l.buffer ≡ zeros k
     go l clears f = first-zeros k named (drop named cells) h
     go l (refuses x) f = absurd (let z : ◌≡◌ {A = ℕ} 0 1 = cc in omega arith)
 
 -- after a load that named enough the block holds the cells of the empty history
-pub load-holds : (n : ℕ) (t : Tree) → WellFormed t → Complete n t → (d : ℕ) → cells_before t n ≤ d
+pub load_holds : (n : ℕ) (t : Tree) → WellFormed t → Complete n t → (d : ℕ) → cells_before t n ≤ d
     → (named : ℕ) (cells : List ℕ) → (loaded named cells).answer ≡ count named → d ≤ named → HoldsPast n t 0 [] (loaded named cells).buffer
 unfolding after
-load-holds n t w c d enough named cells e h =
+load_holds n t w c d enough named cells e h =
     record { inside = omega arith; cells = cleared named cells e (cells_before t n) (omega arith) ∙ (walk-right n t w c []).cells }
 
-pub from-load : (n : ℕ) (t : Tree) → WellFormed t → Complete n t → (work : Program) → IsProgramOf n t work → (d : ℕ) → cells_before t n ≤ d → LawfulFromLoad n t work d
-from-load n t w c work same d enough named cells e h =
-    from_past n t w c work same 0 [] (loaded named cells).buffer (load-holds n t w c d enough named cells e h)
+pub from_load : (n : ℕ) (t : Tree) → WellFormed t → Complete n t → (work : Program) → IsProgramOf n t work → (d : ℕ) → cells_before t n ≤ d → LawfulFromLoad n t work d
+from_load n t w c work same d enough named cells e h =
+    from_past n t w c work same 0 [] (loaded named cells).buffer (load_holds n t w c d enough named cells e h)
 
-pub refused-load : (named from lent : ℕ) (cells : List ℕ) (x : ℕ) (p : ℤ) → (loaded named cells).answer ≡ refused x p → Refused (load_call named from lent) cells
-refused-load named from lent cells x p e = record { number = x; place = p; nothing = go (loaded named cells) (load-end named cells) e }
+pub refused_load : (named from lent : ℕ) (cells : List ℕ) (x : ℕ) (p : ℤ) → (loaded named cells).answer ≡ refused x p → Refused (load_call named from lent) cells
+refused_load named from lent cells x p e = record { number = x; place = p; nothing = go (loaded named cells) (load_end named cells) e }
   where
     go : (l : Outcome) → LoadEnd named cells l → l.answer ≡ refused x p → ran_as l.answer l.buffer [] ≡ ran_as (refused x p) cells []
     go l clears f = absurd (let z : ◌≡◌ {A = ℕ} 0 1 = cc in omega arith)

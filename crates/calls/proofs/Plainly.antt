@@ -123,9 +123,9 @@ module _ (n : ℕ) (t : Tree) (xs : List ℕ) (walk : Program) (is-walk : IsProg
     all-refused block list (x ∷ elements) o =
         (plain-refused block list x o.0, all-refused (block_with work at block list x) (list_with work at block list x) elements o.1)
 
-    pub others-refused : (block list : List ℕ) (elements : List ProbedElement) → OtherCallsRefused work at block list elements
+    pub others_refused : (block list : List ℕ) (elements : List ProbedElement) → OtherCallsRefused work at block list elements
         → OthersRefused walk at block (plainly work at block list elements)
     unfolding OthersRefused
-    others-refused block list elements o =
+    others_refused block list elements o =
         rw (same-events block list elements)
         (each_map (λ e. RefusedIfOther (plain e).element e.cells) (λ e. RefusedIfOther e.element e.given) plain (λ e r. r) (probed_events work at block list elements) (all-refused block list elements o))

@@ -21,7 +21,7 @@ use Rattle.calls.specs.Recorded.{KeptRecording, HoldsLatest, ProbedAnswered, rec
 use Rattle.calls.proofs.NewSamples.{since}
 use Rattle.calls.proofs.Law.{holds_around, law}
 use Rattle.calls.proofs.Watched.{shown_in}
-use Rattle.calls.proofs.Plainly.{same-events, same_block, refusals, others-refused}
+use Rattle.calls.proofs.Plainly.{same-events, same_block, refusals, others_refused}
 use Rattle.calls.proofs.RecordedBy.{handled}
 
 module _ (n : ℕ) (t : Tree) (w : WellFormed t) (c : Complete n t) (xs : List ℕ) (walk : Program) (is-walk : IsProgramOf n t walk)
@@ -47,7 +47,7 @@ module _ (n : ℕ) (t : Tree) (w : WellFormed t) (c : Complete n t) (xs : List �
       let one : List ProbedElement = x ∷ [] in
       let new : List Tick = added_by (ins t) (plain (event_with work at block list x)) in
       let behind : List ℕ = drop (cells_before t n) (drop at block) in
-      let l = law n t w c walk is-walk at h block held (plainly work at block list one) (others-refused n t xs walk is-walk work is-work at block list one (o, tt)) in
+      let l = law n t w c walk is-walk at h block held (plainly work at block list one) (others_refused n t xs walk is-walk work is-work at block list one (o, tt)) in
       let e : history n t xs walk work at h block list one ≡ reverse_aux new h = history-is h block list one ∙ ap (λ fs. reverse_aux fs h) (append-nil new) in
       rw (same_block n t xs walk is-walk work is-work at block list one ∙ l.cells ∙ ap (λ (H : History). take at block ++ (cells_after n t H ++ behind)) e)
       (holds_around n t w c at (reverse_aux new h) (take at block) behind (length-take-le at block held.inside))

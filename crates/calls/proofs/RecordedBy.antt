@@ -92,8 +92,8 @@ module _ (n : ℕ) (t : Tree) (w : WellFormed t) (c : Complete n t) (xs : List �
           let long : length (cells_after n t h) ≡ N = ap length (sym (walk-right n t w c h).cells) ∙ cells-long n t w c h in
           lent_enough N a.walk.lent (drop at block) (omega (arith, length-take N (drop at block), ap length held.cells))
 
-      list-lent : leb P (length latest) ≡ leb P a.kept
-      list-lent = lent_enough P a.kept list (omega (arith, length-take P list, ap length v, length-map ps (wire_after t h)))
+      list_lent : leb P (length latest) ≡ leb P a.kept
+      list_lent = lent_enough P a.kept list (omega (arith, length-take P list, ap length v, length-map ps (wire_after t h)))
 
       abbrev full : Probed
       full = watches n t ps a.walk.ticks a.walk.inputs a.walk.controls cells a.walk.outputs latest a.recording
@@ -102,7 +102,7 @@ module _ (n : ℕ) (t : Tree) (w : WellFormed t) (c : Complete n t) (xs : List �
       unfolding probed probed_answer_to watches answered
       answers =
           ap (λ (r : Probed). without_report r.ran.answer) (is-work a cells latest)
-          ∙ rw (cells-lent, list-lent)
+          ∙ rw (cells-lent, list_lent)
           (go (block_ok (ins t) a.walk.ticks a.walk.inputs a.walk.controls) (probes_ok n t xs) (leb N a.walk.lent and leb (a.walk.ticks * outs t) (length a.walk.outputs))
           (leb P a.kept and leb (a.walk.ticks * P) (length a.recording)))
         where

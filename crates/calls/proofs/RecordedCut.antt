@@ -29,8 +29,8 @@ use Rattle.calls.specs.ProbedCalls.ProbedElement.{own_walk}
 use Rattle.calls.specs.Recorded.{HoldsLatest, ProbedAnswered, AcceptedWalk, Recorded, RecordedByTick, RecordedFromPast, RecordedFromLoad, IsProbedProgramOf}
 use Rattle.calls.proofs.Cut.{cut-accepted}
 use Rattle.calls.proofs.Throughout.{each-before, each_after, from_past}
-use Rattle.calls.proofs.Loads.{load-holds}
-use Rattle.calls.proofs.Plainly.{others-refused}
+use Rattle.calls.proofs.Loads.{load_holds}
+use Rattle.calls.proofs.Plainly.{others_refused}
 use Rattle.calls.proofs.Recorded.{recorded_law}
 
 module _ (n : ℕ) (t : Tree) (xs : List ℕ) where
@@ -153,7 +153,7 @@ pub recorded_from_past : (n : ℕ) (t : Tree) → WellFormed t → Complete n t 
     → (work : ProbedProgram) → IsProbedProgramOf n t xs work → RecordedFromPast n t xs walk work
 recorded_from_past n t w c xs walk is-walk work is-work at past block list u v elements o =
     record {
-      walks = from_past n t w c walk is-walk at past block u (plainly work at block list elements) (others-refused n t xs walk is-walk work is-work at block list elements o);
+      walks = from_past n t w c walk is-walk at past block u (plainly work at block list elements) (others_refused n t xs walk is-walk work is-work at block list elements o);
       whole = recorded_law n t w c xs walk is-walk work is-work at past block list u v elements o;
       tick_by_tick = by_tick n t w c xs walk is-walk work is-work at past block list u v elements o;
     }
@@ -161,4 +161,4 @@ recorded_from_past n t w c xs walk is-walk work is-work at past block list u v e
 pub recorded_from_load : (n : ℕ) (t : Tree) → WellFormed t → Complete n t → (xs : List ℕ) (walk : Program) → IsProgramOf n t walk
     → (work : ProbedProgram) → IsProbedProgramOf n t xs work → (d : ℕ) → cells_before t n ≤ d → RecordedFromLoad n t xs walk work d
 recorded_from_load n t w c xs walk is-walk work is-work d enough named cells list e h z =
-    recorded_from_past n t w c xs walk is-walk work is-work 0 [] (loaded named cells).buffer list (load-holds n t w c d enough named cells e h) (z ∙ sym (wires_start t (probes_of xs)))
+    recorded_from_past n t w c xs walk is-walk work is-work 0 [] (loaded named cells).buffer list (load_holds n t w c d enough named cells e h) (z ∙ sym (wires_start t (probes_of xs)))

@@ -32,7 +32,7 @@ module _ {A : Type 0} (P : A → Type 0) where
   each_after (x ∷ xs) ys (p, ps) = each_after xs ys ps
 
 module _ (work : Program) (at : ℕ) where
-  pub events_append : (block : List ℕ) (xs ys : List Element) → events work at block (xs ++ ys) ≡ events work at block xs ++ events work at (left work at block xs) ys
+  events_append : (block : List ℕ) (xs ys : List Element) → events work at block (xs ++ ys) ≡ events work at block xs ++ events work at (left work at block xs) ys
   unfolding events left
   events_append block [] ys = refl
   events_append block (x ∷ xs) ys = ap (λ es. event_of work at block x ∷ es) (events_append (block_after (call_of work at x) block) xs ys)
@@ -55,15 +55,15 @@ module _ (n : ℕ) (t : Tree) (w : WellFormed t) (c : Complete n t) (work : Prog
     abbrev cut_at : ℕ → List Element
     cut_at j = cut_after n t work at before a j
 
-    others-refused : (j : ℕ) → OthersRefused work at block (cut_at j)
+    others_refused : (j : ℕ) → OthersRefused work at block (cut_at j)
     unfolding OthersRefused events
-    others-refused j =
+    others_refused j =
         let P : Event → Type 0 = λ e. RefusedIfOther e.element e.given in
         rw (events_append work at block before (own (first_ticks (ins t) a j) ∷ []))
         (each_append P (events work at block before) _ (each-before P (events work at block before) _ (rw (p.stands, events_append work at block before (own a ∷ p.after)) at o)) (tt, tt))
 
     lawful_cut : (j : ℕ) → Lawful n t work at past block (cut_at j)
-    lawful_cut j = law n t w c work same at past block held (cut_at j) (others-refused j)
+    lawful_cut j = law n t w c work same at past block held (cut_at j) (others_refused j)
 
     cut-history : (j : ℕ) → j ≤ a.ticks → history n t work at past block (cut_at j) ≡ reverse_aux (ticks_of (ins t) a.controls j (take (j * ins t) a.inputs)) (history n t work at past block before)
     unfolding events

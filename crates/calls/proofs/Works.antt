@@ -98,17 +98,17 @@ joined base i c l r h f fl fr cs a b w el er own y ey es =
       clipped = ap₂ ◌or◌ (w.clips-first ∙ ap (clips l) el) (w.clips-second ∙ ap (clips r) er);
     }
 
-sequence-works : (base : ℕ → ℕ) (i : ℕ) (l r : Tree) → Works base l → Works base r → Works base (join i sequence l r)
+sequence_works : (base : ℕ → ℕ) (i : ℕ) (l r : Tree) → Works base l → Works base r → Works base (join i sequence l r)
 unfolding step shown Holds Placed size contents left_history right_history
-sequence-works base i l r wl wr h f cs p u =
+sequence_works base i l r wl wr h f cs p u =
     let fr : Tick = tick (step base l f cs).outputs f.controls in
     let b = both base l r wl wr p.5 h (wire h (signal l h)) f fr cs p.1 p.2 u.1 u.2 in
     let er : fr ∷ wire h (signal l h) ≡ wire (f ∷ h) (signal l (f ∷ h)) = rw b.first (sym (wire-next (signal l) (causal l) f h)) in
     joined base i sequence l r h f f fr cs (step base l f cs) (step base r fr (step base l f cs).cells) b refl er refl (step base r fr (step base l f cs).cells).outputs (b.second ∙ ap (λ H. head_or [] (signal r H)) er) (λ p v. refl)
 
-parallel-works : (base : ℕ → ℕ) (i : ℕ) (l r : Tree) → Works base l → Works base r → Works base (join i parallel l r)
+parallel_works : (base : ℕ → ℕ) (i : ℕ) (l r : Tree) → Works base l → Works base r → Works base (join i parallel l r)
 unfolding step shown Holds Placed size contents left_history right_history
-parallel-works base i l r wl wr h f cs p u =
+parallel_works base i l r wl wr h f cs p u =
     let fl : Tick = tick (take (ins l) f.inputs) f.controls in
     let fr : Tick = tick (drop (ins l) f.inputs) f.controls in
     let b = both base l r wl wr p.5 (rewire (take (ins l)) h) (rewire (drop (ins l)) h) fl fr cs p.1 p.2 u.1 u.2 in
@@ -122,18 +122,18 @@ through_works : (g : Beam → Beam) (base : ℕ → ℕ) (l r : Tree) (h : Histo
     → tick (g (step base l f cs).outputs) f.controls ∷ wire h (map g (signal l h)) ≡ wire (f ∷ h) (map g (signal l (f ∷ h)))
 through_works g base l r h f cs e = rw e (sym (map_next (signal l) (causal l) f h g))
 
-split-works : (base : ℕ → ℕ) (i : ℕ) (l r : Tree) → Works base l → Works base r → Works base (join i split l r)
+split_works : (base : ℕ → ℕ) (i : ℕ) (l r : Tree) → Works base l → Works base r → Works base (join i split l r)
 unfolding step shown Holds Placed size contents left_history right_history
-split-works base i l r wl wr h f cs p u =
+split_works base i l r wl wr h f cs p u =
     let g : Beam → Beam = fill (ins r) (outs l) in
     let fr : Tick = tick (g (step base l f cs).outputs) f.controls in
     let b = both base l r wl wr p.5 h (wire h (map g (signal l h))) f fr cs p.1 p.2 u.1 u.2 in
     let er : fr ∷ wire h (map g (signal l h)) ≡ wire (f ∷ h) (map g (signal l (f ∷ h))) = through_works g base l r h f cs b.first in
     joined base i split l r h f f fr cs (step base l f cs) (step base r fr (step base l f cs).cells) b refl er refl (step base r fr (step base l f cs).cells).outputs (b.second ∙ ap (λ H. head_or [] (signal r H)) er) (λ p v. refl)
 
-merge-works : (base : ℕ → ℕ) (i : ℕ) (l r : Tree) → Works base l → Works base r → Works base (join i merge l r)
+merge_works : (base : ℕ → ℕ) (i : ℕ) (l r : Tree) → Works base l → Works base r → Works base (join i merge l r)
 unfolding step shown Holds Placed size contents left_history right_history
-merge-works base i l r wl wr h f cs p u =
+merge_works base i l r wl wr h f cs p u =
     let g : Beam → Beam = sums (outs l) (ins r) in
     let fr : Tick = tick (g (step base l f cs).outputs) f.controls in
     let b = both base l r wl wr p.5 h (wire h (map g (signal l h))) f fr cs p.1 p.2 u.1 u.2 in
@@ -182,16 +182,16 @@ held base i b h f cs u e =
       clipped = rw e;
     }
 
-demand-works : (base : ℕ → ℕ) (i : ℕ) (b : Tree) → Works base b
+demand_works : (base : ℕ → ℕ) (i : ℕ) (b : Tree) → Works base b
     → (h : History) (f : Tick) (cs : List ℕ) → Placed base (length cs) (ondemand i b) → Holds base (ondemand i b) h cs
     → (d : Bool) → demanded f ≡ d → Right base (ondemand i b) h f cs (step base (ondemand i b) f cs)
 unfolding step
-demand-works base i b wb h f cs p u true e = rw e (called base i b wb h f cs p u _ refl e)
-demand-works base i b wb h f cs p u false e = rw e (held base i b h f cs u e)
+demand_works base i b wb h f cs p u true e = rw e (called base i b wb h f cs p u _ refl e)
+demand_works base i b wb h f cs p u false e = rw e (held base i b h f cs u e)
 
-recursion-works : (base : ℕ → ℕ) (i : ℕ) (l r : Tree) → ins r ≤ outs l → Works base l → Works base r → Works base (join i recursion l r)
+recursion_works : (base : ℕ → ℕ) (i : ℕ) (l r : Tree) → ins r ≤ outs l → Works base l → Works base r → Works base (join i recursion l r)
 unfolding step shown Holds Placed Owned size contents left_history right_history Distinct clips
-recursion-works base i l r q wl wr h f cs p u =
+recursion_works base i l r q wl wr h f cs p u =
     let xs : Beam = part (base i) (ins r) cs in
     let fr : Tick = tick xs f.controls in
     let a : Stepped = step base r fr cs in
@@ -233,9 +233,9 @@ works base (leaf i (delay d)) w h f cs p u =
     record { outputs = e; holds = s.own; same = s.other; long = s.long; shows = leaf_shows i (delay d) h f _ e; clipped = refl }
 works base (leaf i cable) w h f cs p u = record { outputs = refl; holds = refl; same = λ k n. refl; long = refl; shows = leaf_shows i cable h f _ refl; clipped = refl }
 works base (leaf i cut) w h f cs p u = record { outputs = refl; holds = refl; same = λ k n. refl; long = refl; shows = leaf_shows i cut h f _ refl; clipped = refl }
-works base (join i sequence l r) w h f cs p u = sequence-works base i l r (works base l w.0) (works base r w.1) h f cs p u
-works base (join i parallel l r) w h f cs p u = parallel-works base i l r (works base l w.0) (works base r w.1) h f cs p u
-works base (join i split l r) w h f cs p u = split-works base i l r (works base l w.0) (works base r w.1) h f cs p u
-works base (join i merge l r) w h f cs p u = merge-works base i l r (works base l w.0) (works base r w.1) h f cs p u
-works base (join i recursion l r) w h f cs p u = recursion-works base i l r w.2.0 (works base l w.0) (works base r w.1) h f cs p u
-works base (ondemand i b) w h f cs p u = demand-works base i b (works base b w) h f cs p u (demanded f) refl
+works base (join i sequence l r) w h f cs p u = sequence_works base i l r (works base l w.0) (works base r w.1) h f cs p u
+works base (join i parallel l r) w h f cs p u = parallel_works base i l r (works base l w.0) (works base r w.1) h f cs p u
+works base (join i split l r) w h f cs p u = split_works base i l r (works base l w.0) (works base r w.1) h f cs p u
+works base (join i merge l r) w h f cs p u = merge_works base i l r (works base l w.0) (works base r w.1) h f cs p u
+works base (join i recursion l r) w h f cs p u = recursion_works base i l r w.2.0 (works base l w.0) (works base r w.1) h f cs p u
+works base (ondemand i b) w h f cs p u = demand_works base i b (works base b w) h f cs p u (demanded f) refl

@@ -91,9 +91,9 @@ module _ (g : Tick → List ℕ → Stepped) (n m k ticks : ℕ) (inputs control
   played-few [] cs = omega arith
   played-few (f ∷ fs) cs = omega (arith, bit-few (g f cs).clipped, played-few fs (g f cs).cells)
 
-  ticks-many : (j : ℕ) (xs : List ℕ) → length (ticks_of n controls j xs) ≡ j
-  ticks-many zero xs = refl
-  ticks-many (suc j) xs = ap suc (ticks-many j (drop n xs))
+  ticks_many : (j : ℕ) (xs : List ℕ) → length (ticks_of n controls j xs) ≡ j
+  ticks_many zero xs = refl
+  ticks_many (suc j) xs = ap suc (ticks_many j (drop n xs))
 
   pub few-reported : report_of (called g n m k ticks inputs controls cells outputs).answer ≤ 4096
   unfolding called answered
@@ -103,6 +103,6 @@ module _ (g : Tick → List ℕ → Stepped) (n m k ticks : ℕ) (inputs control
           → report_of (pick a (pick b (answered g n m k ticks inputs controls cells outputs) (refusal 12 cells outputs)) (refusal 14 cells outputs)).answer ≤ 4096
       go true e true =
           let p = played-few (ticks_of n controls ticks inputs) (take k cells) in
-          omega (arith, p, ticks-many ticks inputs, (block_says n ticks inputs controls e).short)
+          omega (arith, p, ticks_many ticks inputs, (block_says n ticks inputs controls e).short)
       go true e false = omega arith
       go false e b = omega arith

@@ -1,4 +1,6 @@
 // Cells: the memory of a circuit between ticks. A delay's line is a position and a ring of d samples.
+#![tactic(auto)]
+
 ghost use Rattle.std.specs.Prelude.{◌≡◌, ◌++◌, ◌+◌, ◌-◌, ◌*◌, ◌%◌, ◌^◌, ◌<◌, ◌≤◌, length, get_or, drop};
 ghost use Rattle.word.specs.Choice.{◌or◌};
 ghost use Rattle.word.specs.Limits.{widest};
@@ -9,7 +11,7 @@ ghost use Rattle.cells.specs.Load.{loaded, answer_of};
 ghost use Rattle.cells.specs.Block.{block_ok};
 ghost use Rattle.cells.specs.Delay.{position as position_of, delayed as delayed_of, moved as moved_of};
 
-use refusal::{Fault, Refusal};
+use refusal::Refusal;
 use word::index;
 use word::limits::{CELLS, CONTROLS, MOST_TICKS};
 
@@ -162,10 +164,10 @@ pub fn load(named: u32, cells: &mut [u32]) -> LoadAnswer
 {
     let count = index(named);
     if count > CELLS {
-        return LoadAnswer::Refused(Refusal::Call(Fault::TooManyCells));
+        return LoadAnswer::Refused(Refusal::TooManyCells);
     }
     if count > cells.len() {
-        return LoadAnswer::Refused(Refusal::Call(Fault::ShortBuffer));
+        return LoadAnswer::Refused(Refusal::ShortBuffer);
     }
     clear(cells, count);
     LoadAnswer::Cells(named)

@@ -1,5 +1,7 @@
 // The engine for other languages: every entry over slices, its answer in one number.
 // No entry asks anything of its caller, so that no misuse of the numbers lent is undefined.
+#![tactic(auto)]
+
 ghost use Rattle.std.specs.Prelude.{◌≡◌, ◌≤◌};
 ghost use Rattle.word.specs.Limits.{most_ticks};
 ghost use Rattle.refusal.specs.Answer.{refusal_of};
@@ -7,7 +9,6 @@ ghost use Rattle.cells.specs.Block.{with_report, report_of};
 ghost use Rattle.cells.specs.Load.{loaded};
 ghost use Rattle.column.specs.File.{reading, writing};
 ghost use Rattle.joining.specs.Join.{joined_tables};
-ghost use Rattle.saving.specs.Saved.{saved, restored};
 ghost use Rattle.walker.specs.Walk.{answer_of, walked_table, probed_table};
 ghost use Rattle.translator.specs.Translate.{translated_table};
 ghost use Rattle.flat.specs.Run.{ran};
@@ -20,8 +21,7 @@ use cells::LoadAnswer;
 use column::{ReadAnswer, WriteAnswer};
 use flat::RunAnswer;
 use joining::JoinAnswer;
-use refusal::{Fault, Refusal};
-use state::{CellsAnswer, FileAnswer};
+use refusal::Refusal;
 use translator::TranslateAnswer;
 use walker::WalkAnswer;
 
@@ -53,7 +53,7 @@ pub extern "C" fn circuit_check(table: &[u32], counts: &mut [u32]) -> u64
             cells: d,
         } => {
             if counts.len() < 4 {
-                return refused(Refusal::Call(Fault::ShortBuffer));
+                return refused(Refusal::ShortBuffer);
             }
             counts[0] = n;
             counts[1] = m;
@@ -126,32 +126,6 @@ pub extern "C" fn circuit_load(named: u32, cells: &mut [u32]) -> u64
     match answer {
         LoadAnswer::Refused(r) => return refused(r),
         LoadAnswer::Cells(n) => return n as u64,
-    }
-}
-
-// A test in progress saved: the table's cells into a state file.
-#[unsafe(no_mangle)]
-pub extern "C" fn circuit_save(table: &[u32], cells: &[u32], file: &mut [u8]) -> u64
-    ensures answer { result ≡ encoded (saved table.now cells.now file.old).answer }
-    ensures file { file.new ≡ (saved table.now cells.now file.old).buffer }
-{
-    let answer = state::save(table, cells, file);
-    match answer {
-        FileAnswer::Refused(r) => return refused(r),
-        FileAnswer::Bytes(n) => return n as u64,
-    }
-}
-
-// A test in progress restored: a state file into the table's cells.
-#[unsafe(no_mangle)]
-pub extern "C" fn circuit_restore(table: &[u32], file: &[u8], cells: &mut [u32]) -> u64
-    ensures answer { result ≡ encoded (restored table.now file.now cells.old).answer }
-    ensures cells { cells.new ≡ (restored table.now file.now cells.old).buffer }
-{
-    let answer = state::restore(table, file, cells);
-    match answer {
-        CellsAnswer::Refused(r) => return refused(r),
-        CellsAnswer::Cells(n) => return n as u64,
     }
 }
 

@@ -71,8 +71,8 @@ module _ (table file : List ℕ) (b i : ℕ) (w : Words table) (e : (writing tab
       let g : get_or (node table i) j 0 ≡ get_or table (3 * i + j) 0 = get_or-take 3 (drop (3 * i) table) j 0 l ∙ get_or-drop (3 * i) table j 0 in
       subst (λ (x : ℕ). ColumnHolds (line_of table i) (4 + 12 * j) 12 (value x)) g (entry-holds i (node table i) few (words-node table i w) (node-length table i whole) j l)
 
-pub file-holds : FileHolds
-file-holds table file b i w e h =
+pub file_holds : FileHolds
+file_holds table file b i w e h =
     let p : 3 * i < length table = omega arith in (
       in_file table file b i w e p 0 4 (pos i) (41 * i) (omega arith) (omega arith) (node-column table file b i w e p),
       λ j l. in_file table file b i w e p (4 + 12 * j) 12 (value (get_or table (3 * i + j) 0)) (41 * i + (4 + 12 * j)) (omega arith) refl (entry-column table file b i w e p j (omega arith)),

@@ -23,7 +23,7 @@ use Rattle.column.specs.Promises.{first_line}
 use Rattle.column.proofs.Lines.{not-whole}
 use Rattle.column.proofs.Judged.{drop-take, whole-line, one_line_more, line_not_whole}
 use Rattle.column.proofs.Checking.{checking_starts, file_judged}
-use Rattle.column.proofs.Storing.{file-right}
+use Rattle.column.proofs.Storing.{file_right}
 use Rattle.column.proofs.FileText.{lines_join, lines-few, lines-bytes, texts_lines, texts_length, texts_right}
 use Rattle.column.proofs.Writes.{lines-length}
 
@@ -87,7 +87,7 @@ refused-alike k (b ∷ bs) h =
 -- a file that is right has no more than 512 lines of 41 bytes
 right-length : (file : List ℕ) → file_refusal file ≡ none → length file ≤ 20992
 right-length file e =
-    let r : lines_refusal 0 (lines file) ≡ none = file-right file e in
+    let r : lines_refusal 0 (lines file) ≡ none = file_right file e in
     let n : length file ≡ 41 * length (lines file) = sym (ap length (lines_join file)) ∙ lines-bytes 0 (lines file) r in
     omega (arith, lines-few 0 (lines file) (omega arith) r)
 

@@ -12,7 +12,7 @@ use Rattle.refusal.specs.Outcome.{outcome}
 use Rattle.column.specs.Line.{lines}
 use Rattle.column.specs.File.{lines_refusal, file_refusal, table_of, reading, lines_from, writing}
 use Rattle.column.specs.Laws.{FileAgain, TableAgain}
-use Rattle.column.proofs.Storing.{file-right, numbers-length}
+use Rattle.column.proofs.Storing.{file_right, numbers-length}
 use Rattle.column.proofs.Writes.{lines-length, write-put}
 use Rattle.column.proofs.Refusing.{read-counted, write-counted, some-line, even_count}
 use Rattle.column.proofs.FileText.{lines_join, lines-again, lines-few, lines-bytes, texts, texts_lines, texts_length, texts_right, texts_numbers}
@@ -28,10 +28,10 @@ read-nodes : (file table : List ℕ) (n : ℕ) → lines_refusal 0 (lines file) 
 unfolding reading file_refusal
 read-nodes file table n r e h l = rw (e, ne_eqb n 0 (omega arith), r, le-ltb (length table) (3 * n) l)
 
-pub file-again : FileAgain
-file-again file table out n e h =
+pub file_again : FileAgain
+file_again file table out n e h =
     let r = read-counted file table n e in
-    let ok : lines_refusal 0 (lines file) ≡ none = file-right file r.0 in
+    let ok : lines_refusal 0 (lines file) ≡ none = file_right file r.0 in
     let k : length (lines file) ≡ n = r.1.0 in
     let t : List ℕ = table_of (lines file) in
     let m : length t ≡ 3 * n = numbers-length (lines file) ∙ ap (λ (k : ℕ). 3 * k) k in

@@ -97,12 +97,12 @@ pub record Storing (file table₀ : List ℕ) (nodes : ℕ) (table : List ℕ) (
   pub left : length (lines (drop (41 * node) file)) ≡ nodes - node
   pub done : sets table (3 * node) (table_of (lines (drop (41 * node) file))) ≡ sets table₀ 0 (table_of (lines file))
 
-pub file-right : (file : List ℕ) → file_refusal file ≡ none → lines_refusal 0 (lines file) ≡ none
+pub file_right : (file : List ℕ) → file_refusal file ≡ none → lines_refusal 0 (lines file) ≡ none
 unfolding file_refusal
-file-right file e = or_right (when (eqb (length (lines file)) 0) (refused_at 3 0)) (lines_refusal 0 (lines file)) e
+file_right file e = or_right (when (eqb (length (lines file)) 0) (refused_at 3 0)) (lines_refusal 0 (lines file)) e
 
 pub storing_starts : (file table : List ℕ) (nodes : ℕ) → file_refusal file ≡ none → nodes ≡ length (lines file) → Storing file table nodes table 0
-storing_starts file table nodes e n = record { few = omega arith; long = refl; right = file-right file e; left = omega arith; done = refl }
+storing_starts file table nodes e n = record { few = omega arith; long = refl; right = file_right file e; left = omega arith; done = refl }
 
 module _ (file table₀ : List ℕ) (nodes : ℕ) (table : List ℕ) (node : ℕ) (p : Storing file table₀ nodes table node) where
   storing_from : node < nodes → RightFrom file (41 * node) node

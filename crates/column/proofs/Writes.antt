@@ -110,9 +110,9 @@ module _ (table file : List ℕ) where
     write-uneven h = rw (ne_eqb (length table) 0 Some-number, ne_eqb (length table % 3) 0 h)
 
     module _ (even : length table % 3 ≡ 0) where
-      pub write-many : 512 < length table / 3 → outcome (refused_at 3 512) file ≡ writing table file
+      pub write_many : 512 < length table / 3 → outcome (refused_at 3 512) file ≡ writing table file
       unfolding writing count_refusal
-      write-many h = rw (ne_eqb (length table) 0 Some-number, eq-eqb (length table % 3) 0 even, lt-ltb 512 (length table / 3) h)
+      write_many h = rw (ne_eqb (length table) 0 Some-number, eq-eqb (length table % 3) 0 even, lt-ltb 512 (length table / 3) h)
 
       module _ (few : length table / 3 ≤ 512) where
         pub count-right : count_refusal table ≡ none

@@ -1,4 +1,6 @@
 // Column files: a node table as lines of right-justified decimal numbers, read and written.
+#![tactic(auto)]
+
 mod reader;
 mod writer;
 

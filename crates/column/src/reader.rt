@@ -12,7 +12,7 @@ ghost use Rattle.refusal.specs.Outcome.{outcome};
 
 use crate::{LINE_BYTES, NODE_COLUMN, ReadAnswer};
 use number::{COLUMN, Number, read_number};
-use refusal::{Fault, Refusal};
+use refusal::Refusal;
 use word::limits::MOST_NODES;
 
 // Whether the line that begins at `at` has 41 bytes, the last its line feed. However long the line is, only these are looked at.
@@ -130,7 +130,7 @@ pub fn read(file: &[u8], table: &mut [u32]) -> ReadAnswer
     };
     let nodes = count as usize;
     if table.len() < 3 * nodes {
-        return ReadAnswer::Refused(Refusal::Call(Fault::ShortBuffer));
+        return ReadAnswer::Refused(Refusal::ShortBuffer);
     }
     store(file, table, nodes);
     checked

@@ -8,7 +8,7 @@ ghost use Rattle.refusal.specs.Outcome.{outcome};
 
 use crate::{LINE_BYTES, NODE_COLUMN, WriteAnswer};
 use number::{put_number, put_row};
-use refusal::{Fault, Refusal};
+use refusal::Refusal;
 use word::limits::{MOST_NODES, NODES};
 
 // The line of a node, the whole of the lent line: its number in 4 columns, then its three in 12 each.
@@ -53,7 +53,7 @@ pub fn write(table: &[u32], file: &mut [u8]) -> WriteAnswer
     }
     let needed = LINE_BYTES * nodes;
     if file.len() < needed {
-        return WriteAnswer::Refused(Refusal::Call(Fault::ShortBuffer));
+        return WriteAnswer::Refused(Refusal::ShortBuffer);
     }
     put_lines(table, nodes, file);
     WriteAnswer::Bytes(needed as u32)

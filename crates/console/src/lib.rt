@@ -1,4 +1,6 @@
 // What the programs do with their input and output; the libraries below work on slices.
+#![tactic(auto)]
+
 mod held;
 mod messages;
 mod playing;

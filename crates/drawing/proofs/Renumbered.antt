@@ -181,11 +181,11 @@ module _ (t : List ℕ) (a : IsAccepted t) where
   made : Renumbers (circuit t)
   made = renumbers (circuit t) (all_in_range t a)
 
-  same-many : nodes (renumbered (circuit t)) ≡ nodes t
-  same-many = made.many ∙ counted-nodes t a
+  same_many : nodes (renumbered (circuit t)) ≡ nodes t
+  same_many = made.many ∙ counted-nodes t a
 
   pub renumbered-accepted : IsAccepted (renumbered (circuit t))
-  renumbered-accepted = accepted-rows _ made.rows made.some (omega (arith, same-many, (formed t a).most)) (made.fitting (all-fitted t a))
+  renumbered-accepted = accepted-rows _ made.rows made.some (omega (arith, same_many, (formed t a).most)) (made.fitting (all-fitted t a))
 
   same_answer : checked (renumbered (circuit t)) ≡ checked t
   same_answer =
@@ -194,7 +194,7 @@ module _ (t : List ℕ) (a : IsAccepted t) where
 
 pub renumbering : Renumbered
 renumbering t a = record {
-  length = same-many t a;
+  length = same_many t a;
   answer = same_answer t a;
   draws = (made t a).draws;
   again = renumbered-alike _ _ (made t a).draws;

@@ -39,13 +39,13 @@ rest = own (arguments 1 (8 ∷ [])) ∷ own (arguments 1 (8 ∷ (2 ^ 32 - 1) ∷
 abbrev block : List ℕ
 block = (loaded 2 (3 ∷ 4 ∷ [])).buffer
 
-others-refused : OthersRefused program 0 block (own first ∷ rest)
+others_refused : OthersRefused program 0 block (own first ∷ rest)
 unfolding OthersRefused
-others-refused = (tt, (tt, (tt, tt)))
+others_refused = (tt, (tt, (tt, tt)))
 
 lawful : LawfulThroughout (nodes short_delay) (circuit short_delay) program 0 [] block (own first ∷ rest)
 unfolding loaded
-lawful = delay_lawful (3 ∷ 4 ∷ []) refl (own first ∷ rest) others-refused
+lawful = delay_lawful (3 ∷ 4 ∷ []) refl (own first ∷ rest) others_refused
 
 ticked : ℕ → ℕ → Tick
 ticked x amount = tick (x ∷ amount ∷ []) (zeros 16)

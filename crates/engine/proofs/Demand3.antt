@@ -19,14 +19,12 @@ use Rattle.calls.specs.Calls.{Arguments, Refused}
 use Rattle.calls.specs.Law.{IsProgramOf}
 use Rattle.calls.proofs.Walks.{walks}
 use Rattle.calls.proofs.Throughout.{from_past}
-use Rattle.walker.specs.Walks.{walk_of}
-use Rattle.walker.proofs.WalkList.{own-walk}
+use Rattle.calls.proofs.Loads.{from_load}
 use Rattle.flat.proofs.Refused.{refused-nothing}
-use Rattle.saving.proofs.Tests.{from_beginning}
 use Rattle.translator.specs.Translated.{translated}
 use Rattle.translator.proofs.Delivered.{is_delivered, was_accepted, delivered}
 use Rattle.engine.specs.Runs.{run_of, run_call}
-use Rattle.engine.specs.Demand3.{Runnable, Demand3, WalksFromBeginning, RunsGoOn, Never13, DeliveredRuns}
+use Rattle.engine.specs.Demand3.{Runnable, Demand3, RunsGoOn, Never13, DeliveredRuns}
 use Rattle.engine.proofs.Alike.{run_is_walk}
 
 -- a refused run of any code changes nothing: it is one of the calls that may lie between
@@ -42,10 +40,7 @@ module _ (table : List ℕ) (d : ℕ) (r : Runnable table d) where
   own_run a cells = run_is_walk (nodes table) (circuit table) p.well_formed p.complete a.ticks a.inputs a.controls cells a.outputs (p.small (omega (arith, r.short)) (omega (arith, r.few)))
 
 pub demand_3 : (table : List ℕ) → Demand3 table
-demand_3 table d r = from_beginning table r.inputs r.outputs r.instructions d r.accepted r.words (run_of (translated table)) (own_run table d r)
-
-pub walks_from_beginning : (table : List ℕ) → WalksFromBeginning table
-walks_from_beginning table n m i d k words few = from_beginning table n m i d k words (walk_of table) (own-walk table n m i d k words few)
+demand_3 table d r = from_load (nodes table) (circuit table) (p table d r).well_formed (p table d r).complete (run_of (translated table)) (own_run table d r) _ (omega (arith, (p table d r).celled, r.few))
 
 pub runs_go_on : (table : List ℕ) → RunsGoOn table
 runs_go_on table d r = from_past (nodes table) (circuit table) (p table d r).well_formed (p table d r).complete (run_of (translated table)) (own_run table d r)

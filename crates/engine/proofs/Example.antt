@@ -29,7 +29,7 @@ use Rattle.calls.specs.Calls.{Arguments, Program, Element, events, left, written
 use Rattle.calls.specs.Calls.Element.{own, other}
 use Rattle.calls.specs.Law.{samples_after, TickByTick, LawfulThroughout, AcceptedAfter, cut_after}
 use Rattle.calls.specs.Loads.{load_call}
-use Rattle.calls.proofs.Loads.{refused-load}
+use Rattle.calls.proofs.Loads.{refused_load}
 use Rattle.walker.specs.Walk.{walked_table}
 use Rattle.walker.specs.Walks.{walk_call}
 use Rattle.walker.proofs.WalkList.{refused-walk}
@@ -71,13 +71,13 @@ list = own first ∷ between
 abbrev block : List ℕ
 block = (loaded 1 (7 ∷ 9 ∷ [])).buffer
 
-others-refused : OthersRefused program 0 block list
+others_refused : OthersRefused program 0 block list
 unfolding OthersRefused loaded walked_table checked ran code_ok
-others-refused = (tt, (tt, (tt, (refused-load 16385 0 1 _ 11 no_place refl, (refused-walk [] first _ 3 (pos 0) 0 refl, (refused_run [] first 1 _ 13 no_place refl, (tt, tt)))))))
+others_refused = (tt, (tt, (tt, (refused_load 16385 0 1 _ 11 no_place refl, (refused-walk [] first _ 3 (pos 0) 0 refl, (refused_run [] first 1 _ 13 no_place refl, (tt, tt)))))))
 
 lawful : LawfulThroughout (nodes integrator) (circuit integrator) program 0 [] block list
 unfolding loaded
-lawful = integrator_lawful (7 ∷ 9 ∷ []) refl list others-refused
+lawful = integrator_lawful (7 ∷ 9 ∷ []) refl list others_refused
 
 ticked : ℕ → Tick
 ticked x = tick (x ∷ []) (zeros 16)

@@ -34,9 +34,9 @@ block = (loaded 1 (3 ∷ [])).buffer
 abbrev cut : ℕ → List Element
 cut j = cut_after (nodes ondemand_cable) (circuit ondemand_cable) program 0 [] run j
 
-others-refused : OthersRefused program 0 block (own run ∷ [])
+others_refused : OthersRefused program 0 block (own run ∷ [])
 unfolding OthersRefused
-others-refused = (tt, tt)
+others_refused = (tt, tt)
 
 accepted : AcceptedAfter (nodes ondemand_cable) (circuit ondemand_cable) program 0 (own run ∷ []) [] run
 unfolding answer_to cells_before ins outs tree
@@ -44,7 +44,7 @@ accepted = record { after = []; stands = refl; accepted = refl }
 
 tick_by_tick_lem : TickByTick (nodes ondemand_cable) (circuit ondemand_cable) program 0 [] block [] run
 unfolding loaded
-tick_by_tick_lem = (ondemand_lawful (3 ∷ []) refl (own run ∷ []) others-refused).tick_by_tick [] run accepted
+tick_by_tick_lem = (ondemand_lawful (3 ∷ []) refl (own run ∷ []) others_refused).tick_by_tick [] run accepted
 
 ticked : ℕ → ℕ → Tick
 ticked clock x = tick (clock ∷ x ∷ []) (zeros 16)

@@ -6,11 +6,11 @@ use Rattle.refusal.specs.Answer.{count}
 use Rattle.refusal.specs.Answer.Answer.{counts, refused}
 use Rattle.refusal.specs.Outcome.{outcome}
 use Rattle.arity.specs.Table.{nodes, circuit}
+use Rattle.arity.specs.Nodes.{cells_before}
 use Rattle.arity.specs.Check.{checked}
 use Rattle.calls.specs.Calls.{Arguments}
 use Rattle.calls.specs.Law.{LawfulFromPast}
-use Rattle.walker.specs.Walks.{walk_of}
-use Rattle.saving.specs.Tests.{LawfulFromBeginning}
+use Rattle.calls.specs.Loads.{LawfulFromLoad}
 use Rattle.translator.specs.Translated.{translated}
 use Rattle.translator.specs.Translate.{translated_table}
 use Rattle.engine.specs.Runs.{run_of}
@@ -25,15 +25,10 @@ pub record Runnable (table : List ℕ) (cells : ℕ) : Type 0 where
   pub short : instructions ≤ most_instructions
   pub few : cells ≤ most_cells
 
--- ", and cells that a load has cleared for it, whatever they held before", or that a restoring has brought back (E9). "For every list of runs of the translated
--- code", with "any other refused calls, runs of other code included," between, each lent the cells as the last left them: the law of the list, of its cut after
--- each tick, and of ticks without demand.
+-- ", and cells that a load has cleared for it, whatever they held before. For every list of runs of the translated code", with "any other refused calls, runs
+-- of other code included," between, each lent the cells as the last left them: the law of the list, of its cut after each tick, and of ticks without demand.
 abbrev pub Demand3 : List ℕ → Type 0
-Demand3 table = (d : ℕ) → Runnable table d → LawfulFromBeginning table (run_of (translated table))
-
--- walks count like runs
-abbrev pub WalksFromBeginning : List ℕ → Type 0
-WalksFromBeginning table = (n m i d : ℕ) → checked table ≡ counts (n ∷ m ∷ i ∷ d ∷ []) → Words table → d ≤ most_cells → LawfulFromBeginning table (walk_of table)
+Demand3 table = (d : ℕ) → Runnable table d → LawfulFromLoad (nodes table) (circuit table) (run_of (translated table)) d
 
 -- the same from any past, at any place of a block
 abbrev pub RunsGoOn : List ℕ → Type 0
@@ -46,4 +41,4 @@ Never13 table = (d : ℕ) → Runnable table d → (a : Arguments) (cells : List
 -- demand 3 of the numbers that `translate` has written, wherever it answers with a count
 abbrev pub DeliveredRuns : List ℕ → Type 0
 DeliveredRuns table = (code code' : List ℕ) (c : ℕ) → outcome (count c) code' ≡ translated_table table code → Words table
-    → LawfulFromBeginning table (run_of (take c code'))
+    → LawfulFromLoad (nodes table) (circuit table) (run_of (take c code')) (cells_before (circuit table) (nodes table))

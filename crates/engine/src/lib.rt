@@ -1,1 +1,3 @@
 // What is true of all parts together: laws.
+#![tactic(auto)]
+

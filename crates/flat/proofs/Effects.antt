@@ -17,41 +17,41 @@ use Rattle.flat.specs.Instructions as flat
 module _ (controls : List ℕ) where
   -- one instruction, over registers ρ and cells cs, by the values u and v of the registers x and y
   module _ (ρ cs : List ℕ) where
-    pub number-works : (v : ℕ) → worked controls (flat.number v) ρ cs ≡ effect v 0 cs
+    pub number_works : (v : ℕ) → worked controls (flat.number v) ρ cs ≡ effect v 0 cs
     unfolding worked
-    number-works v = refl
+    number_works v = refl
 
-    pub control-works : (slot : ℕ) → worked controls (flat.control slot) ρ cs ≡ effect (get_or controls slot 0) 0 cs
+    pub control_works : (slot : ℕ) → worked controls (flat.control slot) ρ cs ≡ effect (get_or controls slot 0) 0 cs
     unfolding worked
-    control-works slot = refl
+    control_works slot = refl
 
-    pub operation-works : (op x y z : ℕ) {u v w : ℕ} → get_or ρ x 0 ≡ u → (1 < operands op → get_or ρ y 0 ≡ v) → (2 < operands op → get_or ρ z 0 ≡ w)
+    pub operation_works : (op x y z : ℕ) {u v w : ℕ} → get_or ρ x 0 ≡ u → (1 < operands op → get_or ρ y 0 ≡ v) → (2 < operands op → get_or ρ z 0 ≡ w)
         → worked controls (flat.operation op x y z) ρ cs ≡ effect (operate op u v w) 0 cs
     unfolding worked
-    operation-works op x y z {u} e f g = ap (λ v. effect v 0 cs) (rw e (reads_its_own op u (named 1 y f) (named 2 z g)))
+    operation_works op x y z {u} e f g = ap (λ v. effect v 0 cs) (rw e (reads_its_own op u (named 1 y f) (named 2 z g)))
       where
         named : (k r : ℕ) {v : ℕ} → (k < operands op → get_or ρ r 0 ≡ v) → k < operands op → get_or ρ (operand op k r) 0 ≡ v
         named k r f h = rw (lt-ltb k (operands op) h) (f h)
 
-    pub addition-works : (x y : ℕ) {u v : ℕ} → get_or ρ x 0 ≡ u → get_or ρ y 0 ≡ v → worked controls (flat.addition x y) ρ cs ≡ effect (add u v) 0 cs
+    pub addition_works : (x y : ℕ) {u v : ℕ} → get_or ρ x 0 ≡ u → get_or ρ y 0 ≡ v → worked controls (flat.addition x y) ρ cs ≡ effect (add u v) 0 cs
     unfolding operate
-    addition-works x y e g = operation-works 1 x y 0 e (λ h. g) (λ h. refl)
+    addition_works x y e g = operation_works 1 x y 0 e (λ h. g) (λ h. refl)
 
-    pub delay-works : (x y a d : ℕ) {u v : ℕ} → get_or ρ x 0 ≡ u → get_or ρ y 0 ≡ v → worked controls (flat.delay x y a d) ρ cs ≡ effect (delayed a d u v cs) 0 (moved a d u cs)
+    pub delay_works : (x y a d : ℕ) {u v : ℕ} → get_or ρ x 0 ≡ u → get_or ρ y 0 ≡ v → worked controls (flat.delay x y a d) ρ cs ≡ effect (delayed a d u v cs) 0 (moved a d u cs)
     unfolding worked
-    delay-works x y a d e g = ap₂ (λ u v. effect (delayed a d u v cs) 0 (moved a d u cs)) e g
+    delay_works x y a d e g = ap₂ (λ u v. effect (delayed a d u v cs) 0 (moved a d u cs)) e g
 
-    pub read-works : (a : ℕ) → worked controls (flat.read a) ρ cs ≡ effect (get_or cs a 0) 0 cs
+    pub read_works : (a : ℕ) → worked controls (flat.read a) ρ cs ≡ effect (get_or cs a 0) 0 cs
     unfolding worked
-    read-works a = refl
+    read_works a = refl
 
-    pub write-works : (a x : ℕ) {v : ℕ} → get_or ρ x 0 ≡ v → worked controls (flat.write a x) ρ cs ≡ effect 0 0 (set cs a v)
+    pub write_works : (a x : ℕ) {v : ℕ} → get_or ρ x 0 ≡ v → worked controls (flat.write a x) ρ cs ≡ effect 0 0 (set cs a v)
     unfolding worked
-    write-works a x e = ap (λ v. effect 0 0 (set cs a v)) e
+    write_works a x e = ap (λ v. effect 0 0 (set cs a v)) e
 
-    pub skip-works : (x k : ℕ) {v : ℕ} → get_or ρ x 0 ≡ v → worked controls (flat.skip x k) ρ cs ≡ effect 0 (pick (demand v) 0 k) cs
+    pub skip_works : (x k : ℕ) {v : ℕ} → get_or ρ x 0 ≡ v → worked controls (flat.skip x k) ρ cs ≡ effect 0 (pick (demand v) 0 k) cs
     unfolding worked
-    skip-works x k e = ap (λ v. effect 0 (pick (demand v) 0 k) cs) e
+    skip_works x k e = ap (λ v. effect 0 (pick (demand v) 0 k) cs) e
 
   -- execution, one instruction on
   pub execute-none : (m : Machine) → execute controls [] m ≡ m

@@ -17,7 +17,7 @@ use Rattle.flat.specs.Steps.{Header, Keys, Workable, Steppable, Advanced, Ready}
 use Rattle.flat.proofs.Decoded.{code-instructions, instructions-next, ok_step}
 use Rattle.flat.proofs.Effects.{execute-none, execute-first, execute_skipped, clips-none, clips-first, clips_skipped}
 use Rattle.flat.proofs.Keyed.{keys_as, key_here, keys_on}
-use Rattle.flat.proofs.Working.{works-below, clips-below, skips_inside}
+use Rattle.flat.proofs.Working.{works_below, clips-below, skips_inside}
 
 -- skipped instructions leave zeros, for all that goes over one as execution does
 module _ {A : Type 0} (run : List Instruction → Machine → A)
@@ -84,7 +84,7 @@ module _ {key : ℕ} {x : Instruction} {controls : List ℕ} {own : ℕ} {ρ cs 
         let a : take from (set ρ own v) ≡ take own ρ ++ (v ∷ []) = rw f (take-suc-set ρ own v l) in
         record {
           value = v;
-          does = works-below (length cs) w.end own controls x ρ cs w.ok ∙ d;
+          does = works_below (length cs) w.end own controls x ρ cs w.ok ∙ d;
           takes = rw (n, e₂) (filled (set ρ own v) ys zs from to s et t ey ∙ ap (λ l. l ++ zeros s) a ∙ append_assoc (take own ρ) (v ∷ []) (zeros s));
         }
 

@@ -116,9 +116,9 @@ sixth_unused cells end r x h f = go refl (row cells end r x h)
     go e skip = (zero_of (x.c ∷ x.d ∷ x.e ∷ []) (second-true (leb (suc (r + x.b)) end) _ (second-true (ltb x.a r) _ (rw e at h)))).1.1.0
 
 -- "a register .. not below the instruction's own": what lies from there on makes no difference
-pub works-below : (cells end r : ℕ) (controls : List ℕ) (x : Instruction) (ρ cs : List ℕ) → instruction_ok cells end r x ≡ true → worked controls x (take r ρ) cs ≡ worked controls x ρ cs
+pub works_below : (cells end r : ℕ) (controls : List ℕ) (x : Instruction) (ρ cs : List ℕ) → instruction_ok cells end r x ≡ true → worked controls x (take r ρ) cs ≡ worked controls x ρ cs
 unfolding worked
-works-below cells end r controls x ρ cs h = go refl (row cells end r x h)
+works_below cells end r controls x ρ cs h = go refl (row cells end r x h)
   where
     go : {k : ℕ} → x.code ≡ k → Row k → worked controls x (take r ρ) cs ≡ worked controls x ρ cs
     go e number = rw e

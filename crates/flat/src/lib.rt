@@ -1,4 +1,6 @@
 // Flat code: its check and its runner.
+#![tactic(auto)]
+
 mod check;
 pub mod format;
 mod keys;
@@ -15,7 +17,7 @@ use cells::block_ok;
 use check::code_ok;
 use format::{CELLS, INPUTS, OUTPUTS, REGISTERS};
 use keys::put_keys;
-use refusal::{Fault, Refusal};
+use refusal::Refusal;
 use tick::run_tick;
 use word::{bit, index};
 
@@ -101,16 +103,16 @@ fn run_checked(
         ≡ checks (decode code.now) ticks inputs.now controls.now cells.old outputs.old }
 {
     if !block_ok(code[INPUTS], ticks, inputs, controls) {
-        return RunAnswer::Refused(Refusal::Call(Fault::WrongBlock));
+        return RunAnswer::Refused(Refusal::WrongBlock);
     }
     let count = index(code[CELLS]);
     if cells.len() < count {
-        return RunAnswer::Refused(Refusal::Call(Fault::ShortBuffer));
+        return RunAnswer::Refused(Refusal::ShortBuffer);
     }
     let t = index(ticks);
     let total = t * index(code[OUTPUTS]);
     if outputs.len() < total {
-        return RunAnswer::Refused(Refusal::Call(Fault::ShortBuffer));
+        return RunAnswer::Refused(Refusal::ShortBuffer);
     }
     let clipped = play(
         code,
@@ -139,7 +141,7 @@ pub fn run(
         ≡ ran code.now ticks inputs.now controls.now cells.old outputs.old }
 {
     if !code_ok(code) {
-        return RunAnswer::Refused(Refusal::Call(Fault::WrongCode));
+        return RunAnswer::Refused(Refusal::WrongCode);
     }
     run_checked(code, ticks, inputs, controls, cells, outputs)
 }

@@ -1,4 +1,6 @@
 // Joining two drawings: the first table's nodes, the second's with child numbers moved on, then the joining node.
+#![tactic(auto)]
+
 mod copy;
 
 ghost use Rattle.std.specs.Prelude.{◌≡◌};
@@ -8,7 +10,7 @@ ghost use Rattle.joining.specs.Join.{answer_of, joined_circuits, joined_tables};
 
 use arity::{CheckAnswer, check};
 use copy::put_joined;
-use refusal::{Fault, Refusal};
+use refusal::Refusal;
 use word::limits::TABLE_NUMBERS;
 
 // What `join` answers: the count of numbers, or a refusal.
@@ -26,7 +28,7 @@ fn join_circuits(kind: u32, first: &[u32], second: &[u32], joined: &mut [u32]) -
 {
     let total = first.len() + second.len() + 3;
     if TABLE_NUMBERS < total {
-        return JoinAnswer::Refused(Refusal::Call(Fault::TooManyJoined));
+        return JoinAnswer::Refused(Refusal::TooManyJoined);
     }
     let mut table = [0u32; TABLE_NUMBERS];
     put_joined(kind, first, second, &mut table);
@@ -40,7 +42,7 @@ fn join_circuits(kind: u32, first: &[u32], second: &[u32], joined: &mut [u32]) -
             cells: _,
         } => {
             if joined.len() < total {
-                return JoinAnswer::Refused(Refusal::Call(Fault::ShortBuffer));
+                return JoinAnswer::Refused(Refusal::ShortBuffer);
             }
             put_joined(kind, first, second, joined);
             JoinAnswer::Numbers(total as u32)

@@ -17,7 +17,7 @@ use Rattle.refusal.specs.Outcome.{Outcome, outcome}
 use Rattle.column.specs.Line.{lines}
 use Rattle.column.specs.File.{file_refusal, table_of, reading}
 use Rattle.column.proofs.Refusing.{read-counted}
-use Rattle.column.proofs.Storing.{file-right, numbers-length}
+use Rattle.column.proofs.Storing.{file_right, numbers-length}
 use Rattle.column.proofs.FileText.{lines-few}
 use Rattle.number.specs.Put.{Put, Begins}
 use Rattle.number.proofs.Stores.{begins_of}
@@ -34,14 +34,14 @@ module _ (file table : List ℕ) (a : ReadAnswer) (table' : List ℕ) (q : outco
     where
       go : (x : Option Answer) → file_refusal file ≡ x → file_refusal file ≡ some (refusal_of r)
       go none f =
-          let few : length (lines file) ≤ 512 = omega (arith, lines-few 0 (lines file) (omega arith) (file-right file f)) in
+          let few : length (lines file) ≤ 512 = omega (arith, lines-few 0 (lines file) (omega arith) (file_right file f)) in
           let s : refusal_of r ≡ count (length (lines file)) = rw (e, f, le-ltb (length table) (3 * length (lines file)) (omega arith)) at answered in
           absurd (let z : ◌≡◌ {A = ℕ} 0 1 = cc s in omega arith)
       go (some x) f = let s : refusal_of r ≡ x = rw (e, f) at answered in f ∙ ap (λ (y : Answer). some y) (sym s)
 
-  pub file-refused : 1536 ≤ length table → (r : Refusal) → a ≡ Refused r → {text : List ℕ} {n : ℕ} {text' : List ℕ} → Put (refusal_text (number_of r) (place_of r)) text 0 n text' → Begins (file_text file) text n text'
+  pub file_refused : 1536 ≤ length table → (r : Refusal) → a ≡ Refused r → {text : List ℕ} {n : ℕ} {text' : List ℕ} → Put (refusal_text (number_of r) (place_of r)) text 0 n text' → Begins (file_text file) text n text'
   unfolding file_text
-  file-refused h r e {text} {n} {text'} p = rw (lines-refused h r e) (begins_of (refusal_text (number_of r) (place_of r)) text n text' p)
+  file_refused h r e {text} {n} {text'} p = rw (lines-refused h r e) (begins_of (refusal_text (number_of r) (place_of r)) text n text' p)
 
   module _ (k : ℕ) (e : a ≡ Nodes k) where
     read : (file_refusal file ≡ none) × ((length (lines file) ≡ k) × ((reading file table).buffer ≡ table_of (lines file) ++ drop (3 * k) table))

@@ -1,4 +1,6 @@
 // The translator's print: the code of a column file as text, or number and place of the refusal.
+#![tactic(auto)]
+
 ghost use Rattle.std.specs.Prelude.{◌+◌, ◌≤◌, length};
 ghost use Rattle.refusal.specs.Refusals.{number_of, place_of};
 ghost use Rattle.listing.specs.Print.{line, rows, code_text, refusal_text, most_bytes, table_text, file_text};

@@ -1,4 +1,6 @@
 // Decimal numbers as text: a column read, a column written into a lent line, a line of columns, a numeral without a column.
+#![tactic(auto)]
+
 mod columns;
 mod numerals;
 mod reading;

@@ -1,4 +1,6 @@
 // Plays inputs of every kind, each from a file of its name, and some again as bytes at hand.
+#![tactic(auto)]
+
 use os::open_read;
 
 fn play_file(name: &[u8]) {

@@ -1,4 +1,6 @@
 // A circuit on samples that stand in text: the lines of samples read, the lines of ticks put.
+#![tactic(auto)]
+
 mod samples;
 mod ticks;
 

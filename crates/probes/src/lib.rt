@@ -1,4 +1,6 @@
 // The probes of a walk: which are on which node, and what they show once a node has been worked.
+#![tactic(auto)]
+
 ghost use Rattle.std.specs.Prelude.{◌≡◌, List, ℕ, ◌+◌, ◌-◌, ◌/◌, ◌≤◌, ◌<◌, eqb, length, get_or, set};
 ghost use Rattle.word.specs.Choice.{pick};
 ghost use Rattle.word.specs.Limits.{most_nodes, most_probes};

@@ -1,28 +1,9 @@
 // The refusals of the document, each named for what it means, with its number and its place.
+#![tactic(auto)]
+
 ghost use Rattle.std.specs.Prelude.{◌≡◌};
 ghost use Rattle.word.specs.Word.{low};
-ghost use Rattle.refusal.specs.Refusals.{fault_number, number_of, place_of, place_word};
-
-// What a call is refused for as a whole: such a refusal has no place.
-#[derive(Drop)]
-pub enum Fault {
-    // 10: more than 2,048 instructions
-    TooManyInstructions,
-    // 11: cells that are not 0 to 16,384
-    TooManyCells,
-    // 12: the buffer to be filled or changed is shorter than needed
-    ShortBuffer,
-    // 13: numbers that are no flat code
-    WrongCode,
-    // 14: ticks not 0 to 4,096, inputs that are not ticks times the circuit's, or controls that are not 16
-    WrongBlock,
-    // 15: an odd count of probe numbers, more than 16 probes, or one that names no output of the table
-    WrongProbes,
-    // 17: two tables to be joined whose nodes and the joining one are more than 512
-    TooManyJoined,
-    // 18: a file that is no state file of as many cells as the table has
-    WrongState,
-}
+ghost use Rattle.refusal.specs.Refusals.{number_of, place_of, place_word};
 
 // The place of the first nine is a line of a column file or a node of a table, that of 16 a node.
 #[derive(Drop)]
@@ -45,30 +26,26 @@ pub enum Refusal {
     TooWide(u32),
     // 9: a node other than the last that is nobody's child, of several the lowest
     LooseNode(u32),
+    // 10: more than 2,048 instructions
+    TooManyInstructions,
+    // 11: cells that are not 0 to 16,384
+    TooManyCells,
+    // 12: the buffer to be filled or changed is shorter than needed
+    ShortBuffer,
+    // 13: numbers that are no flat code
+    WrongCode,
+    // 14: ticks not 0 to 4,096, inputs that are not ticks times the circuit's, or controls that are not 16
+    WrongBlock,
+    // 15: an odd count of probe numbers, more than 16 probes, or one that names no output of the table
+    WrongProbes,
     // 16: a recursion whose right side has neither inputs nor outputs
     EmptyFeedback(u32),
-    // 10 to 15, 17 and 18
-    Call(Fault),
+    // 17: two tables to be joined whose nodes and the joining one are more than 512
+    TooManyJoined,
 }
 
 // -1, for a refusal without a place.
 const NO_PLACE: u32 = 4294967295;
-
-// The document's number of a fault.
-fn fault_number(fault: Fault) -> u32
-    ensures { result ≡ fault_number fault }
-{
-    match fault {
-        Fault::TooManyInstructions => 10,
-        Fault::TooManyCells => 11,
-        Fault::ShortBuffer => 12,
-        Fault::WrongCode => 13,
-        Fault::WrongBlock => 14,
-        Fault::WrongProbes => 15,
-        Fault::TooManyJoined => 17,
-        Fault::WrongState => 18,
-    }
-}
 
 // The document's number of a refusal.
 pub fn number(refusal: Refusal) -> u32
@@ -84,8 +61,14 @@ pub fn number(refusal: Refusal) -> u32
         Refusal::NoArityRule(_) => 7,
         Refusal::TooWide(_) => 8,
         Refusal::LooseNode(_) => 9,
+        Refusal::TooManyInstructions => 10,
+        Refusal::TooManyCells => 11,
+        Refusal::ShortBuffer => 12,
+        Refusal::WrongCode => 13,
+        Refusal::WrongBlock => 14,
+        Refusal::WrongProbes => 15,
         Refusal::EmptyFeedback(_) => 16,
-        Refusal::Call(fault) => fault_number(fault),
+        Refusal::TooManyJoined => 17,
     }
 }
 
@@ -103,8 +86,14 @@ fn carried(refusal: Refusal) -> u32
         Refusal::NoArityRule(at) => at,
         Refusal::TooWide(at) => at,
         Refusal::LooseNode(at) => at,
+        Refusal::TooManyInstructions => NO_PLACE,
+        Refusal::TooManyCells => NO_PLACE,
+        Refusal::ShortBuffer => NO_PLACE,
+        Refusal::WrongCode => NO_PLACE,
+        Refusal::WrongBlock => NO_PLACE,
+        Refusal::WrongProbes => NO_PLACE,
         Refusal::EmptyFeedback(at) => at,
-        Refusal::Call(_) => NO_PLACE,
+        Refusal::TooManyJoined => NO_PLACE,
     }
 }
 

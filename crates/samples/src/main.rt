@@ -1,4 +1,6 @@
 // Plays the document's cases on the entries.
+#![tactic(auto)]
+
 fn main() {
     script::play();
 }

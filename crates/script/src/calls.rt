@@ -6,7 +6,6 @@ use column::{ReadAnswer, WriteAnswer};
 use flat::RunAnswer;
 use joining::JoinAnswer;
 use listing::PRINT_BYTES;
-use state::{CellsAnswer, FileAnswer};
 use translator::TranslateAnswer;
 use walker::WalkAnswer;
 use word::index;
@@ -71,12 +70,6 @@ pub fn join_tables(kind: u32, first: &[u32], second: &[u32], buffer: &mut [u32])
     count
 }
 
-fn show_file(buffer: &[u8]) {
-    show::text(b" |\n");
-    show::text(buffer);
-    show::text(b"\n");
-}
-
 // Writes into a buffer; gives how many bytes were written.
 pub fn write_table(table: &[u32], buffer: &mut [u8]) -> usize {
     show::text(b"write");
@@ -89,32 +82,10 @@ pub fn write_table(table: &[u32], buffer: &mut [u8]) -> usize {
             count = index(n);
         }
     }
-    show_file(buffer);
+    show::text(b" |\n");
+    show::text(buffer);
+    show::text(b"\n");
     count
-}
-
-// Saves cells into a buffer; gives how many bytes were written.
-pub fn save_cells(table: &[u32], cells: &[u32], buffer: &mut [u8]) -> usize {
-    show::text(b"save");
-    let answer = state::save(table, cells, buffer);
-    let mut count: usize = 0;
-    match answer {
-        FileAnswer::Refused(r) => show::refused(r),
-        FileAnswer::Bytes(n) => {
-            show::number(n);
-            count = index(n);
-        }
-    }
-    show_file(buffer);
-    count
-}
-
-pub fn restore_cells(table: &[u32], file: &[u8], cells: &mut [u32]) {
-    let answer = state::restore(table, file, cells);
-    match answer {
-        CellsAnswer::Refused(r) => show::refused(r),
-        CellsAnswer::Cells(n) => show::number(n),
-    }
 }
 
 // Translates into a buffer; gives how many numbers the code has.

@@ -1,9 +1,10 @@
 // Scripts over the entries of the engine: docs/SCRIPT.md has their form.
+#![tactic(auto)]
+
 mod calls;
 mod lines;
 mod probed;
 mod show;
-mod states;
 mod text;
 
 ghost use Rattle.std.specs.Prelude.{◌≤◌};
@@ -17,9 +18,6 @@ pub(crate) const UNTOUCHED: u32 = 9;
 
 // Where the second table begins in the buffer of the tables; each has room for so many numbers.
 pub(crate) const SECOND: usize = 2000;
-
-// The most bytes of the file, and of a buffer that is written to one.
-pub(crate) const FILE: usize = 213100;
 
 // How much of each buffer is set.
 #[derive(Drop)]
@@ -231,16 +229,8 @@ fn play_block(
     }
 }
 
-// The lines that set or use the file, among them the one that is followed by its bytes.
-fn play_file(
-    line: &[u8],
-    rest: &[u8],
-    sizes: Sizes,
-    table: &[u32],
-    file: &mut [u8],
-    walked: &mut [u32],
-    ran: &mut [u32],
-) -> Step {
+// The line that is followed by the bytes of a file.
+fn play_file(line: &[u8], rest: &[u8], sizes: Sizes, file: &mut [u8]) -> Step {
     let mut s = sizes;
     if is(line, b"file") {
         let taken = set_file(line, rest, file);
@@ -250,11 +240,7 @@ fn play_file(
             taken: taken,
         };
     }
-    let kept = states::play_state(line, s, table, file, walked, ran);
-    Step {
-        sizes: kept,
-        taken: 0,
-    }
+    Step { sizes: s, taken: 0 }
 }
 
 // One line, with the text after it.
@@ -280,7 +266,7 @@ fn play_line(
     probed::play_probed(
         line, s, tables, probes, inputs, controls, walked, buffer, latest,
     );
-    play_file(line, rest, s, tables, file, walked, ran)
+    play_file(line, rest, s, file)
 }
 
 // So many bytes on, or the end.
@@ -394,7 +380,7 @@ pub fn play() {
     let mut controls = [0u32; 32];
     let mut probes = [0u32; 64];
     let mut latest = [0u32; 40];
-    let mut file = [0u8; FILE];
+    let mut file = [0u8; 21100];
     let mut walked = [0u32; 17000];
     let mut ran = [0u32; 17000];
     let mut buffer = [0u32; 131200];

@@ -1,6 +1,6 @@
 // The lines of a script that make a call: their numbers say how much of the buffers is lent.
 use crate::text::{put_run, read_list};
-use crate::{FILE, SECOND, Sizes, UNTOUCHED, calls, show};
+use crate::{SECOND, Sizes, UNTOUCHED, calls, show};
 use word::index;
 
 // The first number after a word of so many bytes.
@@ -106,21 +106,6 @@ pub fn join_line(line: &[u8], sizes: Sizes, tables: &mut [u32], buffer: &mut [u3
     written
 }
 
-// What a call has written into a buffer, where it is accepted, is the file; gives its size.
-pub fn keep_file(written: usize, size: usize, buffer: &[u8], file: &mut [u8]) -> usize {
-    if written == 0 {
-        return size;
-    }
-    if buffer.len() < written {
-        return size;
-    }
-    if file.len() < written {
-        return size;
-    }
-    bytes::copy(&buffer[0..written], file);
-    written
-}
-
 // `write L` into the first bytes of a buffer; gives the size of the file.
 fn write_part(
     count: usize,
@@ -137,11 +122,18 @@ fn write_part(
         return sizes.file;
     }
     let written = calls::write_table(&table[0..size], &mut buffer[0..count]);
-    keep_file(written, sizes.file, buffer, file)
+    if written == 0 {
+        return sizes.file;
+    }
+    if file.len() < buffer.len() {
+        return sizes.file;
+    }
+    bytes::copy(buffer, file);
+    written
 }
 
 pub fn write_line(line: &[u8], sizes: Sizes, table: &[u32], file: &mut [u8]) -> usize {
-    let mut buffer = [b'.'; FILE];
+    let mut buffer = [b'.'; 21100];
     write_part(index(argument(line, 5)), sizes, table, file, &mut buffer)
 }
 

@@ -29,13 +29,13 @@ demands-counted = refl
 abbrev h : Clock
 h = clock (3 ∷ 0 ∷ 0 ∷ (2 ^ 32 - 1) ∷ 0 ∷ 0 ∷ 0 ∷ (2 ^ 31) ∷ 0 ∷ [])
 
-others-at : map (star 9 h) (0 ∷ 1 ∷ 2 ∷ []) ≡ 0 ∷ 3 ∷ 7 ∷ []
+others_at : map (star 9 h) (0 ∷ 1 ∷ 2 ∷ []) ≡ 0 ∷ 3 ∷ 7 ∷ []
 unfolding star demand
-others-at = refl
+others_at = refl
 
-others-counted : map (plus h) (0 ∷ 1 ∷ 2 ∷ 3 ∷ 4 ∷ 5 ∷ 6 ∷ 7 ∷ 8 ∷ []) ≡ map pos (0 ∷ 0 ∷ 0 ∷ 1 ∷ 1 ∷ 1 ∷ 1 ∷ 2 ∷ 2 ∷ [])
+others_counted : map (plus h) (0 ∷ 1 ∷ 2 ∷ 3 ∷ 4 ∷ 5 ∷ 6 ∷ 7 ∷ 8 ∷ []) ≡ map pos (0 ∷ 0 ∷ 0 ∷ 1 ∷ 1 ∷ 1 ∷ 1 ∷ 2 ∷ 2 ∷ [])
 unfolding plus demands_before demand
-others-counted = refl
+others_counted = refl
 
 -- §4.4 and §4.6: h₀ ⊗ h₁ and h₁ ⊗ h₀
 abbrev h₀ : Clock

@@ -1,1 +1,3 @@
 // The meaning of circuits: definitions and laws.
+#![tactic(auto)]
+

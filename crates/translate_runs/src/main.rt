@@ -1,4 +1,6 @@
 // The translator on further files: 512 lines, what lies about that limit, refusals, and nothing at all.
+#![tactic(auto)]
+
 
 // A file's name, and what the translator prints of it.
 fn run(name: &[u8]) {

@@ -12,7 +12,7 @@ use Rattle.word.proofs.Lists.{or_none}
 use Rattle.cells.specs.Cells.{part, store}
 use Rattle.flat.specs.Flat.{worked, worked_clips, Instruction, Machine, machine, effect, acted, execute, execute1, execute_clips}
 use Rattle.flat.specs.Instructions as flat
-use Rattle.flat.proofs.Effects.{read-works, write-works, skip-works, execute-none, execute-first, execute_append, execute_all_skipped, clips-none, clips-first, clips_append, clips_all_skipped}
+use Rattle.flat.proofs.Effects.{read_works, write_works, skip_works, execute-none, execute-first, execute_append, execute_all_skipped, clips-none, clips-first, clips_append, clips_all_skipped}
 use Rattle.translator.specs.Emit.{reads, writes, up_from}
 use Rattle.translator.proofs.Registers.{Holds, Reads, Kept, kept-length, kept-reads, kept-one, kept_trans, kept-count, kept-holds, both_append, reads-last}
 use Rattle.translator.proofs.Registers.Both.{none, more}
@@ -85,13 +85,13 @@ module _ (controls : List ℕ) where
   reads_do (suc k) a n ρ cs e =
       let v : ℕ = get_or cs a 0 in
       let d = reads_do k (suc a) (suc n) (ρ ++ (v ∷ [])) cs (omega (arith, length-append ρ (v ∷ []))) in
-      first_does (read-works controls ρ cs a) refl (besides (reads-last ρ v n e) d)
+      first_does (read_works controls ρ cs a) refl (besides (reads-last ρ v n e) d)
 
   -- writes of registers
   writes-from : {ρ₀ : List ℕ} (a k : ℕ) {rs vs : List ℕ} (ρ cs : List ℕ) → Kept ρ₀ ρ k → Reads ρ₀ rs vs → Does (writes a rs) [] ρ cs [] (store a vs cs) false
   writes-from a k ρ cs g none = nothing none
   writes-from a k ρ cs g (more {x = r} {y = v} h b) =
-      first_does (write-works controls ρ cs a r (kept-holds g r v h).value) refl (writes-from (suc a) (k + 1) (ρ ++ (0 ∷ [])) (set cs a v) (kept_trans g (kept-one ρ 0)) b)
+      first_does (write_works controls ρ cs a r (kept-holds g r v h).value) refl (writes-from (suc a) (k + 1) (ρ ++ (0 ∷ [])) (set cs a v) (kept_trans g (kept-one ρ 0)) b)
 
   pub writes_do : (a : ℕ) {rs vs : List ℕ} (ρ cs : List ℕ) → Reads ρ rs vs → Does (writes a rs) [] ρ cs [] (store a vs cs) false
   writes_do a ρ cs b = writes-from a 0 ρ cs (record { fresh = []; whole = rw append-nil; count = refl }) b
@@ -109,7 +109,7 @@ module _ (controls : List ℕ) where
       → Does (flat.skip r (length body) ∷ (body ++ js)) rs ρ cs ys cs'' (b or c)
   skipped r v body {js} {ρ = ρ} {cs} h e f o =
       let s : ℕ = pick (demand v) 0 (length body) in
-      let w = skip-works controls ρ cs r (length body) h.value in
+      let w = skip_works controls ρ cs r (length body) h.value in
       record {
         after = o.after;
         run = execute-first controls (flat.skip r (length body)) (body ++ js) ρ cs cs 0 s w ∙ resume body (machine (ρ ++ (0 ∷ [])) s cs) e o;

@@ -23,7 +23,7 @@ use Rattle.signal.specs.Signal.{fill, sums, sum_from, sums_from}
 use Rattle.calls.specs.Step.{step}
 use Rattle.signal.proofs.Beams.{length-fill, length-sums}
 use Rattle.calls.proofs.Widths.{step-outs}
-use Rattle.flat.proofs.Effects.{number-works, control-works, operation-works, addition-works, delay-works}
+use Rattle.flat.proofs.Effects.{number_works, control_works, operation_works, addition_works, delay_works}
 use Rattle.translator.specs.Emit.{writes, up_from, terms, merges, emit}
 use Rattle.translator.proofs.Registers.{Holds, Reads, kept-length, kept-reads, kept-one, both_append, both_take, both_drop, both_tail, both_copies, both_at, both_head, holds-last}
 use Rattle.translator.proofs.Registers.Both.{none, more}
@@ -41,7 +41,7 @@ module _ (controls : List ℕ) where
   terms_do (suc k) b acc at n a {xs} {vs} ρ cs e h l r =
       let s : ℕ = add a (get_or vs at 0) in
       let i : at < length vs = omega arith in
-      first_does controls (addition-works controls ρ cs acc (get_or xs at 0) h.value (both_at at i r).value) refl
+      first_does controls (addition_works controls ρ cs acc (get_or xs at 0) h.value (both_at at i r).value) refl
       (terms_do k b n (at + b) (suc n) s (ρ ++ (s ∷ [])) cs (omega (arith, length-append ρ (s ∷ []))) (holds-last ρ s n e) (omega arith) (kept-reads (kept-one ρ s) r))
 
   merges_do : (m k b i n : ℕ) {xs vs : List ℕ} (ρ cs : List ℕ) → length ρ ≡ n → m + i ≤ b → suc k * b ≡ length vs → Reads ρ xs vs
@@ -62,14 +62,14 @@ module _ (base : ℕ → ℕ) (controls : List ℕ) where
   pub right : (t : Tree) (xs vs : List ℕ) (n : ℕ) (ρ cs : List ℕ) → WellFormed t → length ρ ≡ n → length vs ≡ ins t → Reads ρ xs vs
       → Right t xs vs n ρ cs
   unfolding emit step WellFormed
-  right (leaf i (number v)) xs vs n ρ cs w e k r = one-does controls e (number-works controls ρ cs v) refl
-  right (leaf i (control s)) xs vs n ρ cs w e k r = one-does controls e (control-works controls ρ cs s) refl
+  right (leaf i (number v)) xs vs n ρ cs w e k r = one-does controls e (number_works controls ρ cs v) refl
+  right (leaf i (control s)) xs vs n ρ cs w e k r = one-does controls e (control_works controls ρ cs s) refl
   right (leaf i (operation o)) xs vs n ρ cs w e k r =
       let some : 0 < operands o = w in
-      one-does controls e (operation-works controls ρ cs o (get_or xs 0 0) (get_or xs 1 0) (get_or xs 2 0) (both_at 0 (omega arith) r).value (λ two. (both_at 1 (omega arith) r).value) (λ three. (both_at 2 (omega arith) r).value)) refl
+      one-does controls e (operation_works controls ρ cs o (get_or xs 0 0) (get_or xs 1 0) (get_or xs 2 0) (both_at 0 (omega arith) r).value (λ two. (both_at 1 (omega arith) r).value) (λ three. (both_at 2 (omega arith) r).value)) refl
   right (leaf i (delay d)) xs vs n ρ cs w e k r =
       let amount : get_or ρ (get_or xs 1 0) 0 ≡ get_or vs 1 0 = (both_at 1 (omega arith) r).value in
-      one-does controls e (delay-works controls ρ cs (get_or xs 0 0) (get_or xs 1 0) (base i) d (both_at 0 (omega arith) r).value amount) (ap (λ y. clipped y d) amount)
+      one-does controls e (delay_works controls ρ cs (get_or xs 0 0) (get_or xs 1 0) (base i) d (both_at 0 (omega arith) r).value amount) (ap (λ y. clipped y d) amount)
   right (leaf i cable) xs vs n ρ cs w e k r = nothing controls (more (both_at 0 (omega arith) r) none)
   right (leaf i cut) xs vs n ρ cs w e k r = nothing controls none
   right (join i sequence l r) xs vs n ρ cs w e k b =

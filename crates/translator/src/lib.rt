@@ -1,4 +1,6 @@
 // The translator: a node table into flat code.
+#![tactic(auto)]
+
 mod emit;
 mod instructions;
 mod merge;
@@ -18,7 +20,7 @@ use beam::keep;
 use emit::emit_node;
 use flat::format::{CELLS, HEADER, INPUTS, INSTRUCTIONS, OUTPUTS, WIDTH};
 use place::{Place, Progress, ascending};
-use refusal::{Fault, Refusal};
+use refusal::Refusal;
 use word::index;
 use word::limits::{MOST_CELLS, MOST_INSTRUCTIONS};
 
@@ -74,14 +76,14 @@ fn translate_circuit(
     ensures { outcome (answer_of result) code.new ≡ translates table.now code.old }
 {
     if MOST_INSTRUCTIONS < c {
-        return TranslateAnswer::Refused(Refusal::Call(Fault::TooManyInstructions));
+        return TranslateAnswer::Refused(Refusal::TooManyInstructions);
     }
     if MOST_CELLS < cells {
-        return TranslateAnswer::Refused(Refusal::Call(Fault::TooManyCells));
+        return TranslateAnswer::Refused(Refusal::TooManyCells);
     }
     let total = HEADER + WIDTH * index(c) + index(m);
     if code.len() < total {
-        return TranslateAnswer::Refused(Refusal::Call(Fault::ShortBuffer));
+        return TranslateAnswer::Refused(Refusal::ShortBuffer);
     }
     put_header(code, n, m, c, cells);
     put_circuit(table, shape, n, m, code);

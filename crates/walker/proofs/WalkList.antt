@@ -22,7 +22,7 @@ use Rattle.calls.specs.Step.{step}
 use Rattle.calls.specs.Calls.{Arguments, Refused}
 use Rattle.calls.specs.Law.{IsProgramOf}
 use Rattle.calls.proofs.Throughout.{from_past}
-use Rattle.calls.proofs.Loads.{from-load}
+use Rattle.calls.proofs.Loads.{from_load}
 use Rattle.walker.specs.Walk.{walked, walked_by, walked_table}
 use Rattle.walker.specs.Walks.{walk_of, walk_call, WalksLawful, WalksGoOn}
 
@@ -72,4 +72,4 @@ walks_go_on table n m i d k words few =
 pub walks_lawful : (table : List ℕ) → WalksLawful table
 walks_lawful table n m i d k words few =
     let g = promise k words in
-    from-load (nodes table) (circuit table) g.well_formed g.complete (walk_of table) (own-walk table n m i d k words (omega arith)) _ (omega (arith, g.celled))
+    from_load (nodes table) (circuit table) g.well_formed g.complete (walk_of table) (own-walk table n m i d k words (omega arith)) _ (omega (arith, g.celled))

@@ -152,8 +152,8 @@ module _ {table shape : List ℕ} {n m k : ℕ} (s : Surveyed table shape n m k)
             rooms : leb k (length cells) and leb (ticks * m) (length outputs) ≡ true
             rooms = rw (← ek, ← et, ← em) (both_fit k' (length cells) (t * m') (length outputs) c d)
 
-            pub short-list : (length latest < probe_count xs) ⊎ (length recording < t * probe_count xs) → no 12 ≡ result
-            short-list h = sym (opened ∙ rw (fits, block, ok, rooms, ← et, either_short (probe_count xs) (length latest) (t * probe_count xs) (length recording) h))
+            pub short_list : (length latest < probe_count xs) ⊎ (length recording < t * probe_count xs) → no 12 ≡ result
+            short_list h = sym (opened ∙ rw (fits, block, ok, rooms, ← et, either_short (probe_count xs) (length latest) (t * probe_count xs) (length recording) h))
 
             module _ (e : probe_count xs ≤ length latest) (f : t * probe_count xs ≤ length recording) where
               pub walkable : {n' : ℕ} → n' ≡ n → Walkable table shape n' m' k' t inputs controls cells outputs

@@ -1,4 +1,6 @@
 // The walker: a circuit worked tick by tick on its cells, with or without probes.
+#![tactic(auto)]
+
 mod named;
 mod step;
 pub mod wiring;
@@ -18,7 +20,7 @@ use beam::{fetched, keep, keep_list};
 use cells::block_ok;
 use named::probes_ok;
 use probes::{MARKS, mark, note};
-use refusal::{Fault, Refusal};
+use refusal::Refusal;
 use step::circuit_step;
 use word::limits::{CELLS, CONTROLS};
 use word::{bit, index};
@@ -145,23 +147,23 @@ fn walk_circuit(
 {
     let need = index(count);
     if CELLS < need {
-        return WalkAnswer::Refused(Refusal::Call(Fault::TooManyCells));
+        return WalkAnswer::Refused(Refusal::TooManyCells);
     }
     if !block_ok(n, ticks, inputs, controls) {
-        return WalkAnswer::Refused(Refusal::Call(Fault::WrongBlock));
+        return WalkAnswer::Refused(Refusal::WrongBlock);
     }
     if !probes_ok(table, shape, probes) {
-        return WalkAnswer::Refused(Refusal::Call(Fault::WrongProbes));
+        return WalkAnswer::Refused(Refusal::WrongProbes);
     }
     let t = index(ticks);
     let wide = index(m);
     let total = t * wide;
     let watched = probes.len() / 2;
     if cells.len() < need || outputs.len() < total {
-        return WalkAnswer::Refused(Refusal::Call(Fault::ShortBuffer));
+        return WalkAnswer::Refused(Refusal::ShortBuffer);
     }
     if latest.len() < watched || recording.len() < t * watched {
-        return WalkAnswer::Refused(Refusal::Call(Fault::ShortBuffer));
+        return WalkAnswer::Refused(Refusal::ShortBuffer);
     }
     let clipped = walk_ticks(
         table,

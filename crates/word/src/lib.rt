@@ -1,4 +1,6 @@
 // Words of 32 bits in two's complement: the operations of the document's table, their operand counts, and the demand.
+#![tactic(auto)]
+
 pub mod limits;
 
 ghost use Rattle.std.specs.Prelude.{◌≡◌};

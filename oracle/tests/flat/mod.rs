@@ -5,7 +5,6 @@ use oracle::column;
 use oracle::engine::{Block, Counts, Engine, Probes, Refusal, Worked};
 use oracle::entries::Past;
 use oracle::join::join;
-use oracle::state;
 use oracle::translate::translate;
 
 /// An engine without any history: every tick by the flat code.
@@ -48,11 +47,5 @@ impl Engine for Flat {
     }
     fn join(&self, kind: u32, first: &[u32], second: &[u32], joined: &mut [u32]) -> Answer {
         join(kind, first, second, joined)
-    }
-    fn save(&self, table: &[u32], cells: &[u32], file: &mut [u8]) -> Answer {
-        state::save(table, cells, file)
-    }
-    fn restore(&self, table: &[u32], file: &[u8], cells: &mut [u32]) -> Answer {
-        state::restore(table, file, cells)
     }
 }

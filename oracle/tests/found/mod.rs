@@ -4,7 +4,6 @@
 
 pub mod feedback;
 pub mod joins;
-pub mod states;
 
 use oracle::arity::{check_node, count_nodes, Arity, Node};
 use oracle::engine::Refusal;

@@ -233,7 +233,7 @@ pub const GIVEN: [Rule; 9] = [
 pub const CALLS: [Rule; 8] = [
     late("after 10 and 11", 18, &[10, 11]),
     late("after 14", 40, &[14]),
-    late("after 15", 6, &[15]),
+    late("after 15", 7, &[15]),
     late("after 12", 50, &[12]),
     blind("not by the check", 140, Entry::Check),
     blind("not by the translator", 80, Entry::Translate),

@@ -143,10 +143,4 @@ impl Engine for Rule {
         (self.rest)(&mut joined[length..]);
         Ok((self.answer)(&call) as u32)
     }
-    fn save(&self, table: &[u32], cells: &[u32], file: &mut [u8]) -> Answer {
-        Flat.save(table, cells, file)
-    }
-    fn restore(&self, table: &[u32], file: &[u8], cells: &mut [u32]) -> Answer {
-        Flat.restore(table, file, cells)
-    }
 }

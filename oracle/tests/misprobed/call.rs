@@ -224,10 +224,4 @@ impl Engine for Rule {
     fn join(&self, kind: u32, first: &[u32], second: &[u32], joined: &mut [u32]) -> Answer {
         Flat.join(kind, first, second, joined)
     }
-    fn save(&self, table: &[u32], cells: &[u32], file: &mut [u8]) -> Answer {
-        Flat.save(table, cells, file)
-    }
-    fn restore(&self, table: &[u32], file: &[u8], cells: &mut [u32]) -> Answer {
-        Flat.restore(table, file, cells)
-    }
 }

@@ -8,7 +8,6 @@ use oracle::flat::{instruction, interpret_by, length, Instruction, Operate, HEAD
 use oracle::join::join;
 use oracle::probes::{walk_by, wires, Recorder};
 use oracle::samples::{operate, BEYOND, SELECTOR};
-use oracle::state;
 use oracle::translate::{code, translate};
 
 type Answer = Result<u32, Refusal>;
@@ -275,11 +274,5 @@ impl Engine for Wrong {
     }
     fn join(&self, kind: u32, first: &[u32], second: &[u32], joined: &mut [u32]) -> Answer {
         join(kind, first, second, joined)
-    }
-    fn save(&self, table: &[u32], cells: &[u32], file: &mut [u8]) -> Answer {
-        state::save(table, cells, file)
-    }
-    fn restore(&self, table: &[u32], file: &[u8], cells: &mut [u32]) -> Answer {
-        state::restore(table, file, cells)
     }
 }

@@ -79,15 +79,6 @@ impl Engine for Proved {
         answer(lent(cells, |cells| circuit::load(named, cells)))
     }
 
-    fn save(&self, table: &[u32], cells: &[u32], file: &mut [u8]) -> Answer {
-        answer(circuit::save(&signed(table), &signed(cells), file))
-    }
-
-    fn restore(&self, table: &[u32], file: &[u8], cells: &mut [u32]) -> Answer {
-        let table = signed(table);
-        answer(lent(cells, |cells| circuit::restore(&table, file, cells)))
-    }
-
     fn walk(
         &self,
         table: &[u32],

@@ -1,4 +1,0 @@
-pub mod File
-pub mod Saved
-pub mod Laws
-pub mod Tests

@@ -1,5 +1,0 @@
-mod Putting
-mod Scanned
-mod Scanning
-mod Storing
-mod Calls

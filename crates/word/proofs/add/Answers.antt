@@ -1,0 +1,10 @@
+-- `word::add` meets its contract.
+use Rattle.std.proofs.Common.{sym, ◌∙◌, rules}
+use Rattle.word.specs.Operation.{add}
+use Rattle.word.specs.LowBits.Arithmetic.{sum}
+use Rattle.word.proofs.Forms.{word_form}
+use Rattle.word.proofs.add.Goals as goal
+
+pub returns : goal.returns
+unfolding add
+returns c = c.wrapping_add_u32.ensures.value ∙ sym (word_form sum _ _ c.ranges.a.fits c.ranges.b.fits)
