@@ -25,8 +25,8 @@ module _ (cells end r : ℕ) where
   unfolding instruction_ok
   control-ok slot h = both_true (ltb slot 16) true (is_below slot 16 h) refl
 
-  input_ok : (op k x : ℕ) → (k < operands op → x < r) → input_ok op k r (operand op k x) ≡ true
-  input_ok op k x h = go (ltb k (operands op)) (λ e. h (ltb-true k (operands op) e))
+  input_ok_lem : (op k x : ℕ) → (k < operands op → x < r) → input_ok op k r (operand op k x) ≡ true
+  input_ok_lem op k x h = go (ltb k (operands op)) (λ e. h (ltb-true k (operands op) e))
     where
       go : (has : Bool) → (has ≡ true → x < r) → pick has (ltb (pick has x 0) r) (eqb (pick has x 0) 0) ≡ true
       go true h = is_below x r (h refl)
@@ -36,7 +36,7 @@ module _ (cells end r : ℕ) where
   unfolding instruction_ok
   operation-ok op x y z o h f g =
       both_true (ltb 0 (operands op)) _ (is_below 0 (operands op) o)
-      (both_true (ltb x r) _ (is_below x r h) (both_true _ _ (input_ok op 1 y f) (both_true _ true (input_ok op 2 z g) refl)))
+      (both_true (ltb x r) _ (is_below x r h) (both_true _ _ (input_ok_lem op 1 y f) (both_true _ true (input_ok_lem op 2 z g) refl)))
 
   pub addition-ok : (x y : ℕ) → x < r → y < r → instruction_ok cells end r (flat.addition x y) ≡ true
   addition-ok x y h g = operation-ok 1 x y 0 (unfold operands in lit< tt) h (λ e. g) (λ e. omega arith)

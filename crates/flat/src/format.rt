@@ -27,7 +27,7 @@ pub const REGISTERS: usize = BEAM + MOST_INSTRUCTIONS as usize;
 pub const CODE_NUMBERS: usize = HEADER + WIDTH * MOST_INSTRUCTIONS as usize + BEAM;
 
 // One instruction: its code and its operands.
-#[derive(Drop)]
+#[derive(Clone, Copy)]
 pub struct Instruction {
     pub code: u32,
     pub a: u32,

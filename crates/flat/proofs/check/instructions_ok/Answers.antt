@@ -1,0 +1,21 @@
+-- `flat::check::instructions_ok` meets its contract: the check of the whole is the check of what is left.
+use Prim.Native.Nat.{◌+◌, ◌-◌, ◌*◌, ◌≤◌}
+use mathlib.Core.Path.{◌≡◌, sym}
+use native.Mathlib.Omega.{arith}
+use borrow.Author.Tests.{not-true, not-false}
+use lib.ListN.{drop}
+use Rattle.flat.specs.Flat.{width}
+use Rattle.flat.specs.Code.{header, results_at, instructions_of}
+use Rattle.flat.specs.Check.{instructions_ok}
+use Rattle.flat.proofs.Decoded.{Checking, checked-all, check_fails, check_goes}
+use borrow.Author.Rules.{rules}
+use Rattle.flat.proofs.check.instructions_ok.Goals as goal
+
+pub returns-then-not-instruction_ok : goal.returns-then-not-instruction_ok
+returns-then-not-instruction_ok c = sym (check_fails c.loop-own.invariant.1.1 c.loop-own-test.true c.instruction_ok.ensures c.instruction_at.ensures (not-true _ c.if-not-instruction_ok.true-raw))
+
+pub loop-own-preserved : goal.loop-own-preserved
+loop-own-preserved c = (omega arith, (omega arith, check_goes c.loop-own.invariant.1.1 c.loop-own-test.true c.instruction_ok.ensures c.instruction_at.ensures (not-false _ c.if-not-instruction_ok.false-raw)))
+
+pub returns : goal.returns
+returns c = sym (checked-all c.loop-own.invariant.1.1 c.loop-own-test.false)
