@@ -83,9 +83,9 @@ fields_of k a b g h =
 
 -- the first n nodes of a table, of the stated form, fit: none is refused
 module _ (t : List ℕ) (n : ℕ) (b : Begun t n) where
-  rule_fits : (i : ℕ) → i < n → rule_fits t i ≡ true
+  rule-fits : (i : ℕ) → i < n → rule_fits t i ≡ true
   unfolding rule_fits Ruled
-  rule_fits i h = go (view t n b.children i h)
+  rule-fits i h = go (view t n b.children i h)
     where
       go : View t i → rule_fits t i ≡ true
       go (alone l e) = rule-other (kind_at t i) (tree t (first_at t i)) (tree t (second_at t i)) (λ x y. omega arith)
@@ -117,7 +117,7 @@ module _ (t : List ℕ) (n : ℕ) (b : Begun t n) where
         first_in_range_lem (kind_at t i) (first_at t i) (second_at t i) (b.kinds i h).0 (b.fields i h),
         second_in_range_lem (kind_at t i) (first_at t i) (second_at t i) (b.fields i h),
         of_children t i (b.children i h),
-        rule_fits i h,
+        rule-fits i h,
         feeds_back_lem i h,
         le-leb (ins (tree t i)) 32 (rw r.1 at (b.fitting i h).0.3),
         le-leb (outs (tree t i)) 32 (rw r.2 at (b.fitting i h).0.4),

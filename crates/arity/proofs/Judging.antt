@@ -6,7 +6,7 @@ use mathlib.Core.List.{List}
 use native.Mathlib.Omega.{arith}
 use native.Mathlib.Decide.{dec_le, dec_lt}
 use lib.Dec.{eqb, ltb}
-use borrow.Author.Tests.{eqb-true, leb-true, not-true, not-false, le-leb, lt-leb, le-ltb}
+use borrow.Author.Tests.{eqb-true, leb-true, le-leb, lt-leb, le-ltb}
 use Rattle.word.specs.Choice.{pick, bit}
 use Rattle.word.specs.Operation.{operands}
 use Rattle.word.proofs.OperandCounts.{operands-most}
@@ -196,12 +196,12 @@ module _ {t s m : List ℕ} {i k a b : ℕ} (w : State t s m i) (u : Branching t
   free-at : (z : Bool) → x ≡ z → children_in (kind_at t i) m i (first_at t i) (second_at t i) ≡ z
   free-at z e = rw (v.kind, v.first, v.second) at (sym ex ∙ e)
 
-  pub seen_child : not x ≡ true → Refuses t i (refused_at 6 i)
-  seen_child e = child_refused t s m i w u (free-at false (not-true x e))
+  pub seen_child : x ≡ false → Refuses t i (refused_at 6 i)
+  seen_child e = child_refused t s m i w u (free-at false e)
 
-  module _ (e : not x ≡ false) where
+  module _ (e : x ≡ true) where
     all : children_in (kind_at t i) m i (first_at t i) (second_at t i) ≡ true
-    all = free-at true (not-false x e)
+    all = free-at true e
 
     pub seen_lower : (a < 512) × (b < 512)
     seen_lower = rw (v.first, v.second) (lower_both t s m i w u all)
@@ -216,12 +216,12 @@ module _ {t s m : List ℕ} {i k a b : ℕ} (w : State t s m i) (u : Branching t
       rule-at : (z : Bool) → y ≡ z → rule_of (kind_at t i) l r ≡ z
       rule-at z f = rw v.kind at (sym ey ∙ f)
 
-      pub seen_rule : not y ≡ true → Refuses t i (refused_at 7 i)
-      seen_rule f = rule-refused t s m i w u all l r row_l row_r (rule-at false (not-true y f))
+      pub seen_rule : y ≡ false → Refuses t i (refused_at 7 i)
+      seen_rule f = rule-refused t s m i w u all l r row_l row_r (rule-at false f)
 
-      module _ (f : not y ≡ false) where
+      module _ (f : y ≡ true) where
         fits : rule_of (kind_at t i) l r ≡ true
-        fits = rule-at true (not-false y f)
+        fits = rule-at true f
 
         pub seen_joinable : Joinable k l r
         seen_joinable = rw v.kind (joinable t s m i w u all l r row_l row_r fits)
@@ -230,12 +230,12 @@ module _ {t s m : List ℕ} {i k a b : ℕ} (w : State t s m i) (u : Branching t
           feedback-at : (z : Bool) → o ≡ z → feedback_of (kind_at t i) r ≡ z
           feedback-at z g = rw v.kind at (sym eo ∙ g)
 
-          pub seen_feedback : not o ≡ true → Refuses t i (refused_at 16 i)
-          seen_feedback g = feedback-refused t s m i w u all l r row_l row_r fits (feedback-at false (not-true o g))
+          pub seen_feedback : o ≡ false → Refuses t i (refused_at 16 i)
+          seen_feedback g = feedback-refused t s m i w u all l r row_l row_r fits (feedback-at false g)
 
-          module _ (g : not o ≡ false) {n : Counts} (en : Joins k l r n) where
+          module _ (g : o ≡ true) {n : Counts} (en : Joins k l r n) where
             feeds : feedback_of (kind_at t i) r ≡ true
-            feeds = feedback-at true (not-false o g)
+            feeds = feedback-at true g
 
             counts-at : n ≡ counts_of (tree t i)
             counts-at = counted t s m i w u all l r row_l row_r n (rw v.kind at en)
@@ -295,26 +295,26 @@ module _ {t : List ℕ} {i k a b : ℕ} (v : Read t i k a b) where
     wrong : (first_in_range (kind_at t i) (first_at t i) && second_in_range (kind_at t i) (second_at t i)) ≡ false → Refuses t i (refused_at 5 i)
     wrong e = refuses t i 5 (refusal t i true false _ _ _ _ kind-known e refl refl refl refl) (λ z. omega arith)
 
-    pub first_wrong : not x ≡ true → Refuses t i (refused_at 5 i)
-    first_wrong e = wrong (rw (first-at false (not-true x e)))
+    pub first_wrong : x ≡ false → Refuses t i (refused_at 5 i)
+    first_wrong e = wrong (rw (first-at false e))
 
-    module _ (e : not x ≡ false) where
+    module _ (e : x ≡ true) where
       first-right : first_in_range (kind_at t i) (first_at t i) ≡ true
-      first-right = first-at true (not-false x e)
+      first-right = first-at true e
 
       pub delay-short : k ≡ 4 → a ≤ 4095
-      delay-short q = leb-true a 4095 (rw q at (sym ex ∙ not-false x e))
+      delay-short q = leb-true a 4095 (rw q at (sym ex ∙ e))
 
       module _ {y : Bool} (ey : y ≡ second_in_range k b) where
-        second_at : (z : Bool) → y ≡ z → second_in_range (kind_at t i) (second_at t i) ≡ z
-        second_at z f = rw (v.kind, v.second) at (sym ey ∙ f)
+        second-at : (z : Bool) → y ≡ z → second_in_range (kind_at t i) (second_at t i) ≡ z
+        second-at z f = rw (v.kind, v.second) at (sym ey ∙ f)
 
-        pub second_wrong : not y ≡ true → Refuses t i (refused_at 5 i)
-        second_wrong f = wrong (rw (first-right, second_at false (not-true y f)))
+        pub second_wrong : y ≡ false → Refuses t i (refused_at 5 i)
+        second_wrong f = wrong (rw (first-right, second-at false f))
 
-        module _ (f : not y ≡ false) where
+        module _ (f : y ≡ true) where
           second-right : second_in_range (kind_at t i) (second_at t i) ≡ true
-          second-right = second_at true (not-false y f)
+          second-right = second-at true f
 
           pub branching : i < nodes t → 6 < k → Branching t i
           branching h l = record { inside = h; least = omega (arith, v.kind); most = omega (arith, v.kind); first = first-right; second = second-right }

@@ -56,8 +56,8 @@ module _ (t : List ℕ) (x : Passed t) where
       }
 
   -- the first cell of a node, from the tree
-  first_cell : (i : ℕ) → i ≤ nodes t → cells_before (circuit t) i ≡ first_cell t i
-  first_cell i h = cells-before (cells_of t) (nodes t) (circuit t) whole-tree (sized t (nodes t) kids_of _ last) i h
+  first-cell : (i : ℕ) → i ≤ nodes t → cells_before (circuit t) i ≡ first_cell t i
+  first-cell i h = cells-before (cells_of t) (nodes t) (circuit t) whole-tree (sized t (nodes t) kids_of _ last) i h
 
   fits : (i : ℕ) → i < nodes t → 7 ≤ kind_at t i → kind_at t i ≤ 11 → Fits (composition_of (kind_at t i)) (tree t (first_at t i)) (tree t (second_at t i))
   unfolding rule_fits
@@ -120,7 +120,7 @@ whole t (ks, e) = whole-tree t (has_passed t ks e).0
 pub recounted : (t : List ℕ) → Recounted t
 recounted t (ks, e) =
     let (x, r) = has_passed t ks e in
-    rw (first_cell t x (nodes t) (omega arith)) (e ∙ sym r)
+    rw (first-cell t x (nodes t) (omega arith)) (e ∙ sym r)
 
 pub promise : {t : List ℕ} {a b c d : ℕ} → Promised t a b c d
 promise {t} {a} {b} {c} {d} e words =
@@ -162,7 +162,7 @@ promise {t} {a} {b} {c} {d} e words =
     cells = cc r
 
     total : d ≡ cells_before (circuit t) (nodes t)
-    total = cells ∙ sym (first_cell t x (nodes t) (omega arith))
+    total = cells ∙ sym (first-cell t x (nodes t) (omega arith))
 
 -- a shape with rows is as long as before
 filled-length : (t s : List ℕ) (i : ℕ) → length (filled t i s) ≡ length s
@@ -185,7 +185,7 @@ rows {t} s {s'} (ks, e) long f i h =
       inputs = ap (λ (r : Row). r.inputs) q;
       outputs = ap (λ (r : Row). r.outputs) q;
       instructions = ap (λ (r : Row). r.instructions) q;
-      cell = ap (λ (r : Row). r.cell) q ∙ sym (first_cell t x i (omega arith));
+      cell = ap (λ (r : Row). r.cell) q ∙ sym (first-cell t x i (omega arith));
     }
   where
     x : Passed t

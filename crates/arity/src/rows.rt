@@ -10,7 +10,7 @@ use word::limits::NODES;
 pub const SHAPE: usize = 4 * NODES;
 
 // The inputs, outputs and instructions of a node's tree, and its first cell.
-#[derive(Drop)]
+#[derive(Clone, Copy)]
 pub struct Row {
     pub inputs: u32,
     pub outputs: u32,

@@ -86,9 +86,9 @@ module _ (t u : List ℕ) (k f s : ℕ) (a : Rows t) (b : Rows u) where
   unfolding closed
   first-at i x h l = get_or-append t _ 0 (3 * i + x) (omega (arith, a.whole))
 
-  second_at : (j x : ℕ) → j < nodes u → x < 3 → get_or (closed t u k f s) (3 * (nodes t + j) + x) 0 ≡ get_or (moved (nodes t) u) (3 * j + x) 0
+  second-at : (j x : ℕ) → j < nodes u → x < 3 → get_or (closed t u k f s) (3 * (nodes t + j) + x) 0 ≡ get_or (moved (nodes t) u) (3 * j + x) 0
   unfolding closed
-  second_at j x h l =
+  second-at j x h l =
       let z : 3 * (nodes t + j) + x ≡ length t + (3 * j + x) = omega (arith, a.whole) in
       ap (λ (y : ℕ). get_or (closed t u k f s) y 0) z
       ∙ get_or-append-add t _ (3 * j + x) 0
@@ -130,11 +130,11 @@ module _ (t u : List ℕ) (k f s : ℕ) (a : Rows t) (b : Rows u) where
   pub second_placed : Placed (nodes t) u (closed t u k f s)
   second_placed =
       record {
-        kind = λ j h. second_at j 0 h (omega arith) ∙ moved-kind (nodes t) u j (inside j h);
-        value = λ j h l. second_at j 1 h (omega arith) ∙ moved-first (nodes t) u j (inside j h) ∙ rw (lt-leb 7 (kind_at u j) (omega arith));
-        first = λ j h l. second_at j 1 h (omega arith) ∙ moved-first (nodes t) u j (inside j h) ∙ rw (le-leb 7 (kind_at u j) l);
-        second = λ j h l m. second_at j 2 h (omega arith) ∙ moved-second (nodes t) u j (inside j h) ∙ rw (two-children (kind_at u j) l m);
-        unused = λ j h n. second_at j 2 h (omega arith) ∙ moved-second (nodes t) u j (inside j h) ∙ rw (not-two (kind_at u j) n);
+        kind = λ j h. second-at j 0 h (omega arith) ∙ moved-kind (nodes t) u j (inside j h);
+        value = λ j h l. second-at j 1 h (omega arith) ∙ moved-first (nodes t) u j (inside j h) ∙ rw (lt-leb 7 (kind_at u j) (omega arith));
+        first = λ j h l. second-at j 1 h (omega arith) ∙ moved-first (nodes t) u j (inside j h) ∙ rw (le-leb 7 (kind_at u j) l);
+        second = λ j h l m. second-at j 2 h (omega arith) ∙ moved-second (nodes t) u j (inside j h) ∙ rw (two-children (kind_at u j) l m);
+        unused = λ j h n. second-at j 2 h (omega arith) ∙ moved-second (nodes t) u j (inside j h) ∙ rw (not-two (kind_at u j) n);
       }
     where
       inside : (j : ℕ) → j < nodes u → 3 * j + 3 ≤ length u

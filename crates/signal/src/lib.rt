@@ -1,3 +1,2 @@
 // The meaning of circuits: definitions and laws.
 #![tactic(auto)]
-
