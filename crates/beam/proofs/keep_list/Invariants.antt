@@ -1,0 +1,12 @@
+-- `beam::keep_list` meets its contract.
+use Prim.Native.Nat.{◌+◌, ◌-◌, ◌≤◌}
+use mathlib.Core.Path.{◌≡◌}
+use lib.ListN.{length, drop}
+use Rattle.cells.specs.Cells.{store}
+use Rattle.beam.proofs.keep_list.Given as goal
+
+abbrev pub invariant-loop-i : goal.invariant-loop-i
+invariant-loop-i l = (l.i ≤ length l.list) × (length l.cells ≡ length l.initial.cells) × (store (l.base + l.i) (drop l.i l.list) l.cells ≡ store l.base l.list l.initial.cells)
+
+abbrev pub decreases-loop-i : goal.decreases-loop-i
+decreases-loop-i l = length l.list - l.i

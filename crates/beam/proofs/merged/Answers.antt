@@ -1,0 +1,14 @@
+-- `beam::merged` meets its contract.
+use Prim.Native.Nat.{ℕ, ◌+◌, ◌-◌, ◌/◌, ◌≤◌}
+use mathlib.Core.Path.{◌≡◌, ap, ◌∙◌}
+use mathlib.Core.List.{◌++◌}
+use native.Mathlib.Omega.{arith}
+use borrow.Author.Rules.{rules}
+use lib.ListN.{length, take, length-set}
+use native.Mathlib.Nat.{div-le_self, le-div_iff_mul-le, one-mul, sub-zero}
+use Rattle.signal.specs.Signal.{sum_from, sums_from}
+use Rattle.beam.proofs.Sums.{sums_next, sums_done}
+use Rattle.beam.proofs.merged.Goals as goal
+
+pub loop-i-preserved : goal.loop-i-preserved
+loop-i-preserved c = (omega arith, simp length-set c.loop-i.invariant.1, sums_next c.loop-i.r (take c.args.m c.args.a) _ c.args.b (c.args.m / c.args.b - 1) c.loop-i.i _ (omega arith) (omega (arith, c.loop-i.invariant.1)) (c.sum.ensures ∙ ap (λ (v : ℕ). sum_from (c.args.m / c.args.b - 1) c.args.b v (c.loop-i.i + c.args.b) (take c.args.m c.args.a)) c.entry-first.ensures) c.loop-i.invariant.2)

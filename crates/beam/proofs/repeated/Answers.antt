@@ -1,0 +1,17 @@
+-- `beam::repeated` meets its contract.
+use Prim.Native.Nat.{◌-◌, ◌≤◌}
+use mathlib.Core.Path.{◌≡◌, refl}
+use native.Mathlib.Omega.{arith}
+use borrow.Author.Rules.{rules}
+use lib.ListN.{length, take, length-set}
+use Rattle.beam.proofs.Copies.{Repeats, repeats_start, repeats_next, repeats_all}
+use Rattle.beam.proofs.repeated.Goals as goal
+
+pub loop-i-preserved : goal.loop-i-preserved
+loop-i-preserved c =
+    let l : length c.loop-i.r ≡ 32 = c.loop-i.invariant.1 in
+    (omega arith, simp length-set l, repeats_next c.args.b c.args.a (omega (arith, c.well_formed.0.1.0.1)) c.loop-i.r c.loop-i.i _ c.loop-i.invariant.0 (omega arith) refl c.loop-i.invariant.2)
+
+pub returns : goal.returns
+returns c =
+    repeats_all c.args.b c.args.a (omega (arith, c.well_formed.0.1.0.1)) c.loop-i.r c.loop-i.i c.args.n (omega arith) (omega (arith, c.loop-i.invariant.1)) c.loop-i.invariant.2
