@@ -38,15 +38,15 @@ length-ticks : (n : ℕ) (controls : List ℕ) (k : ℕ) (inputs : List ℕ) →
 length-ticks n controls zero inputs = refl
 length-ticks n controls (suc k) inputs = ap suc (length-ticks n controls k (drop n inputs))
 
-all_named : (n : ℕ) (t : Tree) (ps : List Probe) → all_named n t ps ≡ true → Each (λ p. p.node < n) ps
-all_named n t [] e = tt
-all_named n t (p ∷ ps) e =
+all-named : (n : ℕ) (t : Tree) (ps : List Probe) → all_named n t ps ≡ true → Each (λ p. p.node < n) ps
+all-named n t [] e = tt
+all-named n t (p ∷ ps) e =
     let here : Bool = ltb p.node n and ltb p.output (outs (subtree t p.node)) in
-    (ltb-true p.node n (first-true (ltb p.node n) _ (first-true here (all_named n t ps) e)), all_named n t ps (second-true here (all_named n t ps) e))
+    (ltb-true p.node n (first-true (ltb p.node n) _ (first-true here (all_named n t ps) e)), all-named n t ps (second-true here (all_named n t ps) e))
 
 named : (n : ℕ) (t : Tree) (xs : List ℕ) → probes_ok n t xs ≡ true → Each (λ p. p.node < n) (probes_of xs)
 named n t xs e =
-    all_named n t (probes_of xs) (second-true (leb (length (probes_of xs)) most_probes) _ (second-true (eqb (length xs % 2) 0) _ e))
+    all-named n t (probes_of xs) (second-true (leb (length (probes_of xs)) most_probes) _ (second-true (eqb (length xs % 2) 0) _ e))
 
 module _ (n : ℕ) (t : Tree) (w : WellFormed t) (c : Complete n t) (xs : List ℕ) where
   abbrev ps : List Probe

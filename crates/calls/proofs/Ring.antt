@@ -84,7 +84,7 @@ module _ (d : ℕ) (pos : 0 < d) where
       let m : ℕ = length past % d in
       let j : ℕ = (m + d - suc a) % d in
       let n : eqb m j ≡ false = other-number m j (other_place d m (suc a) (mod-lt (length past) pos) (omega arith) k) in
-      rw (place-next (length past) (suc a) k, n) (latest-ago past a (omega arith))
+      ap (λ (p : ℕ). latest d p (f ∷ past)) (place-next (length past) (suc a) k) ∙ rw n (latest-ago past a (omega arith))
 
 -- a tick sets the place of its number
 set-place : (l : List ℕ) (m j x : ℕ) → j < length l → (b : Bool) → eqb m j ≡ b → get_or (set l m x) j 0 ≡ pick b x (get_or l j 0)
