@@ -2,7 +2,6 @@
 -- recursion feeds something back.
 use Prim.Native.Nat.{ℕ, suc, ◌≤◌, ◌<◌}
 use mathlib.Core.Path.{◌≡◌, refl, sym, ◌∙◌}
-use mathlib.Core.Logic.{◌↔◌}
 use mathlib.Core.Bool.{Bool, true, false, false≢true}
 use mathlib.Core.List.{List}
 use native.Mathlib.Omega.{arith}
@@ -16,7 +15,7 @@ use Rattle.arity.specs.Tree.{ins, outs}
 use Rattle.arity.specs.Tree.Tree.{join}
 use Rattle.arity.specs.Table.{kind_at, first_at, second_at, nodes, tree, composition_of}
 use Rattle.arity.specs.WellFormed.{Ruled}
-use Rattle.arity.specs.Check.{two_children, first_in_range, second_in_range, rule_fits, feeds_back, taken, refusal_at, loose, report, uneven, checked, IsAccepted}
+use Rattle.arity.specs.Check.{two_children, first_in_range, second_in_range, rule_fits, feeds_back, taken, refusal_at, loose, report, uneven, checked}
 use Rattle.arity.specs.Formed.{Child, Children, Fields, Formed, Fitting, Attached, Begun}
 use Rattle.arity.specs.Acceptance.{Acceptance, Accepted, LastDecides}
 use Rattle.arity.proofs.Exact.{ruled}

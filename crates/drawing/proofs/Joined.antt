@@ -1,6 +1,6 @@
 -- The joined table: it is accepted exactly where its last node is not refused, its refusal otherwise is that node's, and its circuit is the composition.
-use Prim.Native.Nat.{ℕ, suc, ◌+◌, ◌-◌, ◌*◌, ◌≤◌, ◌<◌}
-use mathlib.Core.Path.{◌≡◌, refl, sym, ap, ◌∙◌, subst}
+use Prim.Native.Nat.{ℕ, ◌+◌, ◌-◌, ◌*◌, ◌≤◌, ◌<◌}
+use mathlib.Core.Path.{◌≡◌, refl, sym, ap, ◌∙◌}
 use mathlib.Core.Bool.{Bool, true, false, not, ◌&&◌}
 use mathlib.Core.List.{List}
 use native.Mathlib.Omega.{arith}
@@ -13,12 +13,12 @@ use Rattle.refusal.specs.Answer.{refused_at}
 use Rattle.arity.specs.Tree.{ins, outs}
 use Rattle.arity.specs.Table.{kind_at, first_at, second_at, nodes, tree, circuit}
 use Rattle.arity.specs.Check.{known_kind, first_in_range, second_in_range, two_children, children_free, rule, rule_fits, feedback, feeds_back, narrow, refusal_at, report, checked, IsAccepted}
-use Rattle.arity.specs.Formed.{Children, Begun, Attached, Fitted}
+use Rattle.arity.specs.Formed.{Begun, Attached}
 use Rattle.arity.proofs.Taken.{of_children}
 use Rattle.arity.proofs.Acceptance.{last_decides}
 use Rattle.drawing.specs.Drawing.{drawing, Alike}
 use Rattle.drawing.specs.Numbering.{joined}
-use Rattle.drawing.specs.Joined.{composed, join_refusal, join_answer, report_of}
+use Rattle.drawing.specs.Joined.{composed, join_refusal, join_answer}
 use Rattle.drawing.specs.Laws.{Joinable, JoinedAnswer, JoinedAccepted, JoinedDraws, JoinedMeaning}
 use Rattle.drawing.proofs.Same.{unnumbered}
 use Rattle.drawing.proofs.Placed.{Rows}

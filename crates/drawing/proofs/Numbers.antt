@@ -12,7 +12,7 @@ use Rattle.arity.specs.Rules.{Arity}
 use Rattle.arity.specs.WellFormed.{Fits, Ruled}
 use Rattle.arity.specs.Formed.{Counted, FeedsBack, Fitted}
 use Rattle.arity.proofs.Exact.{exact}
-use Rattle.signal.specs.Signal.{History, Processor, signal, samples, loop, hold, demands, wire, rewire, beside, fill, sums}
+use Rattle.signal.specs.Signal.{History, Processor, signal, loop, hold, demands, wire, rewire, beside, fill, sums}
 use Rattle.drawing.specs.Drawing.{drawing, Alike, total}
 
 -- of the drawing, what there is of the tree

@@ -1,6 +1,6 @@
 -- Renumbering: the table of an accepted table's circuit, numbered left, right, then the node, is accepted with the same answer, draws the same, and is
 -- its own renumbering; two circuits draw the same exactly where their renumbered tables are equal.
-use Prim.Native.Nat.{ℕ, ◌+◌, ◌-◌, ◌≤◌, ◌<◌}
+use Prim.Native.Nat.{ℕ, ◌+◌, ◌-◌, ◌≤◌}
 use mathlib.Core.Path.{◌≡◌, refl, sym, ap, ap₂, ◌∙◌}
 use mathlib.Core.List.{List, []}
 use native.Mathlib.Omega.{arith}

@@ -1,16 +1,13 @@
 -- Two trees that draw the same: inputs, outputs, instructions, cells, meaning and reports are those of their drawing.
-use Prim.Native.Nat.{ℕ, ◌+◌}
 use mathlib.Core.Path.{◌≡◌, refl, sym, ap, ap₂, ◌∙◌}
-use mathlib.Core.Bool.{Bool}
-use mathlib.Core.List.{List, [], ◌∷◌, map}
-use lib.ListN.{take, drop}
+use mathlib.Core.List.{[], ◌∷◌, map}
 use Rattle.arity.specs.Tree.{Tree, Composition, ins, outs}
 use Rattle.arity.specs.Tree.Tree.{leaf, join, ondemand}
 use Rattle.arity.specs.Tree.Composition.{sequence, parallel, split, merge, recursion}
-use Rattle.signal.specs.Signal.{History, Processor, signal, samples, demands, demanded, wire, rewire, fill, sums}
+use Rattle.signal.specs.Signal.{History, Processor, samples, demands, wire, fill, sums}
 use Rattle.signal.specs.History.{loop_left, loop_right, left_history, right_history}
 use Rattle.signal.specs.Clips.{clips, clipped_ticks}
-use Rattle.drawing.specs.Drawing.{drawing, Alike}
+use Rattle.drawing.specs.Drawing.{drawing}
 use Rattle.drawing.specs.Laws.{Unnumbered}
 use Rattle.drawing.proofs.Numbers.{drawing-ins, drawing-outs, drawing-signal, drawing-size, alike-ins, alike-outs, alike-need, alike-total, alike-signal, alike-fitted}
 

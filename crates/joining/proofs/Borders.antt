@@ -16,7 +16,7 @@ use Rattle.signal.specs.Clips.{clipped_ticks}
 use Rattle.drawing.specs.Numbering.{joined}
 use Rattle.drawing.specs.Joined.{composed}
 use Rattle.drawing.specs.Laws.{Joinable}
-use Rattle.joining.specs.Join.{written_by, joined_tables}
+use Rattle.joining.specs.Join.{joined_tables}
 use Rattle.joining.proofs.Delivers.{answers_as_checked, delivers_composition}
 
 -- 511 nodes and the joining one, and no buffer: the refusal that the check gives the joined table, and nothing is written

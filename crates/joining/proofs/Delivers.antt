@@ -1,8 +1,8 @@
 -- What a call answers and delivers, in the words of the request.
-use Prim.Native.Nat.{ℕ, ◌+◌, ◌≤◌, ◌<◌}
+use Prim.Native.Nat.{ℕ, ◌+◌}
 use mathlib.Core.Path.{◌≡◌, refl, sym, ap, ◌∙◌}
 use mathlib.Core.Bool.{Bool, true, false}
-use mathlib.Core.List.{List, [], ◌∷◌, ◌++◌}
+use mathlib.Core.List.{List, ◌++◌}
 use native.Mathlib.Omega.{arith}
 use lib.Dec.{leb}
 use lib.IntN.{ℤ}
@@ -20,7 +20,7 @@ use Rattle.drawing.specs.Laws.{Joinable}
 use Rattle.drawing.proofs.Joined.{joined-draws}
 use Rattle.drawing.proofs.Same.{unnumbered}
 use Rattle.joining.specs.Join.{written_by, joined_by, joined_circuits, joined_tables}
-use Rattle.joining.specs.Laws.{AnswersAsChecked, Composition, DeliversComposition}
+use Rattle.joining.specs.Laws.{AnswersAsChecked, DeliversComposition}
 
 pub answers_as_checked : AnswersAsChecked
 unfolding joined_tables joined_circuits

@@ -1,5 +1,5 @@
 -- A call of `join` from the check's answers on.
-use Prim.Native.Nat.{ℕ, ◌+◌, ◌*◌, ◌≤◌, ◌<◌}
+use Prim.Native.Nat.{ℕ, ◌+◌, ◌≤◌, ◌<◌}
 use mathlib.Core.Path.{◌≡◌, sym, ap, ap₂, ◌∙◌}
 use mathlib.Core.List.{List, [], ◌∷◌, ◌++◌}
 use native.Mathlib.Omega.{arith}
@@ -8,7 +8,6 @@ use lib.Seq.{sets, sets-eq, take_at}
 use borrow.Author.Tests.{le-leb, lt-leb}
 use Rattle.word.specs.Tick.{zeros}
 use Rattle.refusal.specs.Answer.{Answer, count, refusal_of, refused_all}
-use Rattle.refusal.specs.Answer.Answer.{counts}
 use Rattle.refusal.specs.Outcome.{Outcome, outcome}
 use Rattle.refusal.specs.declared.Refusal.{Refusal}
 use Rattle.arity.specs.Table.{nodes}

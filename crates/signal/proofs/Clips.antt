@@ -3,10 +3,10 @@ use Prim.Native.Nat.{ℕ, suc}
 use mathlib.Core.Path.{◌≡◌, refl, sym, ap, ◌∙◌}
 use mathlib.Core.Bool.{Bool, true, false, false≢true}
 use mathlib.Core.Logic.{inl, inr}
-use mathlib.Core.List.{[], ◌∷◌}
+use mathlib.Core.List.{◌∷◌}
 use native.Mathlib.Omega.{arith}
 use lib.ListN.{length, get_or}
-use Rattle.word.specs.Choice.{◌and◌, ◌or◌, pick}
+use Rattle.word.specs.Choice.{◌or◌, pick}
 use Rattle.word.specs.Word.{clipped}
 use Rattle.word.specs.Tick.{Tick, tick, head_or, tail_of}
 use Rattle.word.proofs.Lists.{same_number, first-true, second-true, or_second}

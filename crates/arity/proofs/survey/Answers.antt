@@ -1,13 +1,8 @@
 -- Before node i the state holds and i rows are filled; each return is one of the ends.
-use borrow.Author.Rules.{rules}
-use Prim.Native.Nat.{◌-◌, ◌≤◌}
-use mathlib.Core.Path.{◌≡◌, refl}
+use mathlib.Core.Path.{refl}
 use mathlib.Core.Logic.{inl, inr}
 use native.Mathlib.Numerals.{add-one}
 use native.Mathlib.Omega.{arith}
-use Rattle.arity.specs.Check.{first_cell}
-use Rattle.arity.specs.Survey.{filled}
-use Rattle.arity.specs.Steps.{State}
 use Rattle.arity.proofs.End.{start_state, no_cells, filled_none, filled_more, ends_uneven, ends_long, ends_refused, ends_loose, ends_accepted, stepped-next, stepped-stop}
 use Rattle.arity.proofs.survey.Goals as goal
 

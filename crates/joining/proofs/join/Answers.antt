@@ -1,6 +1,5 @@
 -- `joining::join` meets its contract.
-use borrow.Author.Rules.{rules}
-use Rattle.joining.proofs.Joining.{is-accepted, first-refused, second-refused, both_accepted}
+use Rattle.joining.proofs.Joining.{first-refused, second-refused, both_accepted}
 use Rattle.joining.proofs.join.Goals as goal
 
 pub returns-in-Refused : goal.returns-in-Refused

@@ -1,11 +1,5 @@
 -- `joining::join_circuits` meets its contract.
-use Prim.Native.Nat.{ℕ}
-use mathlib.Core.Path.{sym}
-use native.Mathlib.Omega.{arith}
-use borrow.Author.Rules.{rules}
-use lib.ListN.{length-replicate}
-use lib.Seq.{length-take-le}
-use Rattle.joining.proofs.Joining.{joinable, too_many, refused-joined, short, done}
+use Rattle.joining.proofs.Joining.{too_many, refused-joined, short, done}
 use Rattle.joining.proofs.join_circuits.Goals as goal
 
 pub returns-then-total-gt-TABLE_NUMBERS : goal.returns-then-total-gt-TABLE_NUMBERS

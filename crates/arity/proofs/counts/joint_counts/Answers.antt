@@ -1,6 +1,5 @@
 -- By kind; the rules of merge and recursion keep the differences from falling below 0.
-use borrow.Author.Rules.{rules}
-use Rattle.arity.proofs.Joint.{merge_less, loop-less, joins_parallel, joins_merge, joins_recursion, joins_ondemand, joins_other}
+use Rattle.arity.proofs.Joint.{merge_less, joins_parallel, joins_merge, joins_recursion, joins_ondemand, joins_other}
 use Rattle.arity.proofs.counts.joint_counts.Goals as goal
 
 pub returns-then-kind-eq8 : goal.returns-then-kind-eq8

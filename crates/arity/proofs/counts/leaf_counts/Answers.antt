@@ -1,6 +1,4 @@
 -- By kind.
-use borrow.Author.Rules.{rules}
-use native.Mathlib.Omega.{arith}
 use Rattle.arity.proofs.ByKind.{alone_of}
 use Rattle.arity.proofs.Joint.{leaf-operation, leaf-delay, leaf-cable, leaf-cut, leaf-other}
 use Rattle.arity.proofs.counts.leaf_counts.Goals as goal

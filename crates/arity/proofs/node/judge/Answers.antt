@@ -1,6 +1,5 @@
 -- Each return is a law of the tests on kind and fields.
-use borrow.Author.Rules.{rules}
-use Rattle.arity.proofs.Judging.{Read, kind-low, kind_high, first_wrong, second_wrong, branching, delay-short, leaf-right}
+use Rattle.arity.proofs.Judging.{Read, kind-low, kind_high, first_wrong, second_wrong, leaf-right}
 use Rattle.arity.proofs.node.judge.Goals as goal
 use Rattle.arity.proofs.node.judge.Goals.{After-second_of-second}
 

@@ -1,7 +1,6 @@
 -- Each return is a law of the tests on the marks and rows.
-use borrow.Author.Rules.{rules}
 use mathlib.Core.Path.{◌∙◌}
-use Rattle.arity.proofs.Judging.{Read, seen_child, seen_lower, seen_rule, seen_joinable, seen_feedback, seen_ins, seen_outs, seen_right}
+use Rattle.arity.proofs.Judging.{Read, seen_child, seen_rule, seen_joinable, seen_feedback, seen_ins, seen_outs, seen_right}
 use Rattle.arity.proofs.node.judge_children.Goals as goal
 use Rattle.arity.proofs.node.judge_children.Goals.{After-children_free}
 

@@ -1,11 +1,10 @@
 -- What was judged, by cases; a node that is right leads to the next state.
-use borrow.Author.Rules.{rules}
-use mathlib.Core.Path.{◌≡◌, refl, ◌∙◌}
+use mathlib.Core.Path.{◌≡◌, ◌∙◌}
 use native.Mathlib.Omega.{arith}
 use Rattle.arity.specs.Table.{tree}
 use Rattle.arity.specs.Check.{refusal_at}
 use Rattle.arity.specs.Steps.{counts_of}
-use Rattle.arity.proofs.Next.{judged_right, judged_wrong, next, markable, cells_fit}
+use Rattle.arity.proofs.Next.{judged_right, next, markable, cells_fit}
 use Rattle.arity.proofs.node.step.Goals as goal
 use Rattle.arity.proofs.node.step.Goals.{In-Right}
 

@@ -1,8 +1,7 @@
 -- `joining::copy::put_joined` meets its contract: the first table, the second, the joining node.
 use native.Mathlib.Omega.{arith}
-use borrow.Author.Rules.{rules}
 use Rattle.drawing.proofs.Accepted.{formed}
-use Rattle.joining.proofs.Copying.{first-space, second-space, last-room, all-written}
+use Rattle.joining.proofs.Copying.{all-written}
 use Rattle.joining.proofs.copy.put_joined.Goals as goal
 
 pub overflow_sub-at : goal.overflow_sub-at

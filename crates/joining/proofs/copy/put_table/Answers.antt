@@ -1,12 +1,11 @@
 -- `joining::copy::put_table` meets its contract: node after node.
-use Prim.Native.Nat.{ℕ, ◌-◌}
+use Prim.Native.Nat.{ℕ}
 use mathlib.Core.Path.{◌≡◌, subst}
 use mathlib.Core.Bool.{Bool, true}
 use native.Mathlib.Omega.{arith}
-use borrow.Author.Rules.{rules}
 use lib.Dec.{leb}
 use Rattle.arity.specs.Check.{two_children}
-use Rattle.joining.proofs.Copying.{Going, going_starts, going_on, going_ends, room, first_fits, second_fits}
+use Rattle.joining.proofs.Copying.{going_on, going_ends, first_fits, second_fits}
 use Rattle.joining.proofs.copy.put_table.Goals as goal
 
 pub moved_field-first-requires : goal.moved_field-first-requires

@@ -1,0 +1,11 @@
+-- `walker::named::all_outputs` meets its contract.
+use Prim.Native.Nat.{◌+◌, ◌*◌, ◌≤◌}
+use mathlib.Core.Path.{◌≡◌, refl, sym, ◌∙◌}
+use native.Mathlib.Omega.{arith}
+use lib.ListN.{length}
+use borrow.Author.Tests.{not-true, not-false}
+use Rattle.walker.proofs.Naming.{all_from, all_here, all_none}
+use Rattle.walker.proofs.named.all_outputs.Goals as goal
+
+pub returns : goal.returns
+returns c = sym (c.loop-left.invariant.0 ∙ all_none c.args.table.now c.args.probes.now c.loop-left.i (omega arith))

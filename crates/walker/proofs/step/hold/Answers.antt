@@ -1,0 +1,15 @@
+-- `walker::step::hold` meets its contract.
+use mathlib.Core.Path.{◌≡◌, subst₂}
+use Prim.Native.Nat.{ℕ}
+use native.Mathlib.Omega.{arith}
+use lib.ListN.{take}
+use Rattle.cells.specs.Cells.{store}
+use Rattle.walker.proofs.Leaves.{cell_at, outs-at, outs-few, held-room}
+use borrow.Author.Rules.{rules}
+use Rattle.walker.proofs.step.hold.Goals as goal
+
+pub keep-requires : goal.keep-requires
+keep-requires c =
+    let a = cell_at c.requires.ready c.requires.demands.0.inside c.cell_of.ensures in
+    let n = outs-at c.requires.ready c.requires.demands.0 c.outputs_of.ensures in
+    omega (arith, outs-few c.requires.ready c.requires.demands.0, held-room c.requires.ready c.requires.demands.0 c.requires.demands.1)
