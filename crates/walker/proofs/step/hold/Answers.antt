@@ -10,6 +10,6 @@ use Rattle.walker.proofs.step.hold.Goals as goal
 
 pub keep-requires : goal.keep-requires
 keep-requires c =
-    let a = cell_at c.requires.ready c.requires.demands.0.inside c.cell_of.ensures in
-    let n = outs-at c.requires.ready c.requires.demands.0 c.outputs_of.ensures in
-    omega (arith, outs-few c.requires.ready c.requires.demands.0, held-room c.requires.ready c.requires.demands.0 c.requires.demands.1)
+    let a = cell_at c.requires.ready c.requires.demands.inside c.cell_of.ensures in
+    let n = outs-at c.requires.ready c.requires.demands c.outputs_of.ensures in
+    omega (arith, outs-few c.requires.ready c.requires.demands, held-room c.requires.ready c.requires.demands c.requires.roomy)

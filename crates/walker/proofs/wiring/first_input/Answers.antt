@@ -7,9 +7,9 @@ use Rattle.walker.proofs.wiring.first_input.Goals as goal
 
 pub fetched-requires : goal.fetched-requires
 fetched-requires c =
-    let a = own-cell c.requires.ready c.requires.joins.0 c.cell_of.ensures in
-    let b = right-inputs c.requires.ready c.requires.joins.0 (c.index-right.ensures ∙ c.second_of.ensures) c.inputs_of.ensures in
-    omega (arith, right_few_inputs c.requires.ready c.requires.joins.0, cells-room c.requires.ready c.requires.joins.0 (sym c.kind_of_lem.ensures ∙ c.if-kind_of-eq11.true) c.requires.joins.1)
+    let a = own-cell c.requires.ready c.requires.joins c.cell_of.ensures in
+    let b = right-inputs c.requires.ready c.requires.joins (c.index-right.ensures ∙ c.second_of.ensures) c.inputs_of.ensures in
+    omega (arith, right_few_inputs c.requires.ready c.requires.joins, cells-room c.requires.ready c.requires.joins (sym c.kind_of.ensures ∙ c.if-kind_of-eq11.true) c.requires.roomy)
 
 pub returns : goal.returns
-returns c = first-same c.requires.ready c.requires.joins.0 (λ e. c.if-kind_of-eq11.false (c.kind_of_lem.ensures ∙ e))
+returns c = first-same c.requires.ready c.requires.joins (λ e. c.if-kind_of-eq11.false (c.kind_of.ensures ∙ e))
