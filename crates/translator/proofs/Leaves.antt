@@ -90,9 +90,9 @@ head_of : (n : ℕ) (xs : List ℕ) → head_or 0 (take (suc n) xs) ≡ get_or x
 head_of n [] = refl
 head_of n (x ∷ xs) = refl
 
-tail_of : (n : ℕ) (xs : List ℕ) → tail_of (take (suc n) xs) ≡ take n (drop 1 xs)
-tail_of n [] = simp take-nil
-tail_of n (x ∷ xs) = refl
+tail_of_lem : (n : ℕ) (xs : List ℕ) → tail_of (take (suc n) xs) ≡ take n (drop 1 xs)
+tail_of_lem n [] = simp take-nil
+tail_of_lem n (x ∷ xs) = refl
 
 module _ {table shape : List ℕ} {i : ℕ} (t : Translatable table shape) (d : Demands table i) where
   own : Node table i
@@ -146,7 +146,7 @@ module _ {table shape : List ℕ} {i : ℕ} (t : Translatable table shape) (d : 
           is = record {
             written = rw (skip_is p) w;
             results =
-                sym (take-take (ins (left_tree table i)) 31 us few) ∙ ap (take (ins (left_tree table i))) h ∙ sym (tail_of (ins (left_tree table i)) p.regs)
+                sym (take-take (ins (left_tree table i)) 31 us few) ∙ ap (take (ins (left_tree table i))) h ∙ sym (tail_of_lem (ins (left_tree table i)) p.regs)
                 ∙ ap (λ (n : ℕ). tail_of (take n p.regs)) (sym ins-more);
           };
         }

@@ -10,14 +10,14 @@ use flat::format::{Instruction, WIDTH, put_instruction};
 use word::limits::BEAM;
 
 // The next instruction: the register that it writes, and where it stands.
-#[derive(Drop)]
+#[derive(Clone, Copy)]
 pub struct Place {
     pub next: u32,
     pub at: usize,
 }
 
 // The registers of a beam, and the next instruction.
-#[derive(Drop)]
+#[derive(Clone, Copy)]
 pub struct Progress {
     pub regs: [u32; BEAM],
     pub place: Place,

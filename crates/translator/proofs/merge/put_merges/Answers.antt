@@ -1,0 +1,17 @@
+-- `translator::merge::put_merges` meets its contract.
+use Prim.Native.Nat.{◌-◌, ◌≤◌}
+use Rattle.translator.proofs.Loops.{sum_room, sum-next, sum_stored, sums_done, merge_none}
+use Rattle.translator.proofs.Writing.{Going, start, same-room}
+use Rattle.translator.specs.Emit.{merges}
+use borrow.Author.Rules.{rules}
+use lib.ListN.{length, take, length-set}
+use mathlib.Core.Path.{◌≡◌, refl}
+use native.Mathlib.Nat.{div-le_self, le-div_iff_mul-le, one-mul, sub-zero}
+use native.Mathlib.Omega.{arith}
+use Rattle.translator.proofs.merge.put_merges.Goals as goal
+
+pub put_terms-s-requires : goal.put_terms-s-requires
+put_terms-s-requires c = record { k_le_widest = omega (arith, div-le_self c.args.m c.args.b); room = sum_room _ _ _ _ _ c.entry.ensures (c.args.b - c.loop-i.i) c.loop-i.invariant.2 (omega arith) }
+
+pub loop-i-preserved : goal.loop-i-preserved
+loop-i-preserved c = (omega arith, simp length-set c.loop-i.invariant.1, sum_stored _ c.args.b c.loop-i.i _ c.loop-i.sums _ (sum-next _ _ _ _ _ c.entry.ensures (c.args.b - c.loop-i.i) c.loop-i.invariant.2 (omega arith) c.put_terms-s.ensures) (omega (arith, c.loop-i.invariant.1)))

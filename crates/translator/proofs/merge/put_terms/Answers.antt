@@ -1,0 +1,14 @@
+-- `translator::merge::put_terms` meets its contract.
+use Prim.Native.Nat.{◌+◌, ◌*◌, ◌≤◌}
+use Rattle.translator.proofs.Loops.{term_room, term_next, terms_done}
+use Rattle.translator.proofs.Writing.{Going, start, same-room, all-written}
+use Rattle.translator.specs.Emit.{terms}
+use borrow.Author.Rules.{rules}
+use lib.ListN.{take}
+use mathlib.Core.List.{[]}
+use mathlib.Core.Path.{sym}
+use native.Mathlib.Omega.{arith}
+use Rattle.translator.proofs.merge.put_terms.Goals as goal
+
+pub loop-left-preserved : goal.loop-left-preserved
+loop-left-preserved c = (omega arith, omega arith, term_next _ _ _ _ _ c.entry.ensures c.loop-left.left c.loop-left.invariant.2 (omega arith) (rw c.operation.ensures at c.push-q.ensures))
