@@ -6,7 +6,7 @@ ghost use Rattle.word.specs.Word.{low};
 ghost use Rattle.refusal.specs.Refusals.{number_of, place_of, place_word};
 
 // The place of the first nine is a line of a column file or a node of a table, that of 16 a node.
-#[derive(Drop)]
+#[derive(Clone, Copy)]
 pub enum Refusal {
     // 1: a line that is not 41 bytes, or a column that is no 32-bit number of the form
     MalformedLine(u32),

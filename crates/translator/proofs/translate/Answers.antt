@@ -5,7 +5,7 @@ use mathlib.Core.Path.{refl, ◌∙◌}
 use Rattle.translator.proofs.translate.Goals as goal
 
 pub translate_circuit-requires : goal.translate_circuit-requires
-translate_circuit-requires c = counted _ c.survey-answer.ensures.answer _ c.in-Accepted.is (λ k. (c.shared_slice_known-1.given k).fits) refl c.survey-answer.ensures.rows
+translate_circuit-requires c = counted _ c.survey-answer.ensures.answer _ c.in-Accepted.is (λ k. (c.type_inv.table k).fits) refl c.survey-answer.ensures.rows
 
 pub returns-in-Refused : goal.returns-in-Refused
 returns-in-Refused c = translated_by_lem _ c.survey-answer.ensures.answer _ c.in-Refused.is
