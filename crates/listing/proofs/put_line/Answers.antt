@@ -7,4 +7,4 @@ use Rattle.listing.proofs.put_line.Goals as goal
 pub returns : goal.returns
 returns c =
     let s = c in
-    line-put _ _ _ s.args.from (words_of s.args.numbers.now (λ k. (c.type_inv.table k).fits)) s.requires c.put_row.ensures
+    line-put _ _ _ s.args.from (words_of s.args.numbers.now (λ k. (c.type_inv.numbers k).fits)) s.requires c.put_row.ensures

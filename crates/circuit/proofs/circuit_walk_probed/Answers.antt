@@ -1,0 +1,10 @@
+-- `circuit::circuit_walk_probed` meets its contract.
+use mathlib.Core.Path.{ap}
+use Rattle.calls.specs.Probed.{Probed}
+use Rattle.circuit.proofs.Answers.{probed-gives}
+use Rattle.circuit.proofs.Reports.{few-answer, probed-few}
+use borrow.Author.Rules.{rules}
+use Rattle.circuit.proofs.circuit_walk_probed.Goals as goal
+
+pub walked-requires : goal.walked-requires
+walked-requires c = few-answer _ (ap (λ (y : Probed). y.ran) c.walk_probed-answer.ensures) (probed-few _ _ _ _ _ _ _ _ _)
