@@ -1,3 +1,2 @@
 // What is true of all parts together: laws.
 #![tactic(auto)]
-

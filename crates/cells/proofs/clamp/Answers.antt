@@ -3,7 +3,6 @@ use Prim.Native.Nat.{◌^◌, ◌<◌}
 use Rattle.word.proofs.Forms.{clamp_form}
 use borrow.Author.Tests.{lt-ltb, le-ltb}
 use native.Mathlib.Omega.{arith}
-use borrow.Author.Rules.{rules}
 use Rattle.cells.proofs.clamp.Goals as goal
 
 pub returns-then-a-d : goal.returns-then-a-d

@@ -1,6 +1,5 @@
 -- `cells::outside` meets its contract.
 use mathlib.Core.Path.{sym}
-use borrow.Author.Rules.{rules}
 use Rattle.word.proofs.Forms.{clipped_form}
 use Rattle.cells.proofs.outside.Goals as goal
 

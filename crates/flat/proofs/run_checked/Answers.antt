@@ -8,13 +8,13 @@ use borrow.Author.Rules.{rules}
 use Rattle.flat.proofs.run_checked.Goals as goal
 
 pub returns-then-not-block_ok : goal.returns-then-not-block_ok
-returns-then-not-block_ok c = wrong_block _ c.requires _ _ _ _ _ (sym c.block_ok.ensures ∙ not-true _ c.if-not-block_ok.true-raw)
+returns-then-not-block_ok c = wrong_block _ c.requires _ _ _ _ _ (sym c.block_ok.ensures ∙ c.if-not-block_ok.true)
 
 pub returns-then-cells-count : goal.returns-then-cells-count
-returns-then-cells-count c = cells-short _ c.requires _ _ _ _ _ (sym c.block_ok.ensures ∙ not-false _ c.if-not-block_ok.false-raw) c.index-count.ensures refl refl c.if-cells-count.true
+returns-then-cells-count c = cells-short _ c.requires _ _ _ _ _ (sym c.block_ok.ensures ∙ c.if-not-block_ok.false) c.index-count.ensures refl refl c.if-cells-count.true
 
 pub returns-then-outputs-total : goal.returns-then-outputs-total
-returns-then-outputs-total c = outputs-short _ c.requires _ _ _ _ _ (sym c.block_ok.ensures ∙ not-false _ c.if-not-block_ok.false-raw) c.index-count.ensures c.index-t.ensures c.index.ensures c.if-cells-count.false c.if-outputs-total.true
+returns-then-outputs-total c = outputs-short _ c.requires _ _ _ _ _ (sym c.block_ok.ensures ∙ c.if-not-block_ok.false) c.index-count.ensures c.index-t.ensures c.index.ensures c.if-cells-count.false c.if-outputs-total.true
 
 pub returns : goal.returns
-returns c = accepted _ c.requires _ _ _ _ _ (sym c.block_ok.ensures ∙ not-false _ c.if-not-block_ok.false-raw) c.index-count.ensures c.index-t.ensures c.index.ensures c.if-cells-count.false c.if-outputs-total.false _ _ _ c.play-clipped.ensures
+returns c = accepted _ c.requires _ _ _ _ _ (sym c.block_ok.ensures ∙ c.if-not-block_ok.false) c.index-count.ensures c.index-t.ensures c.index.ensures c.if-cells-count.false c.if-outputs-total.false _ _ _ c.play-clipped.ensures

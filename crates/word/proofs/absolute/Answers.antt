@@ -1,5 +1,5 @@
 -- `word::absolute` meets its contract.
-use Rattle.std.proofs.Common.{sym, ◌∙◌, rules}
+use Rattle.std.proofs.Common.{sym, ◌∙◌}
 use Rattle.word.proofs.Forms.{absolute-small, absolute_large, negate_form}
 use Rattle.word.proofs.absolute.Goals as goal
 

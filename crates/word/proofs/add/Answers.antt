@@ -1,5 +1,5 @@
 -- `word::add` meets its contract.
-use Rattle.std.proofs.Common.{sym, ◌∙◌, rules}
+use Rattle.std.proofs.Common.{sym, ◌∙◌}
 use Rattle.word.specs.Operation.{add}
 use Rattle.word.specs.LowBits.Arithmetic.{sum}
 use Rattle.word.proofs.Forms.{word_form}

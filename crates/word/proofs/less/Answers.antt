@@ -1,5 +1,5 @@
 -- `word::less` meets its contract.
-use Rattle.std.proofs.Common.{rules, le-ltb, lt-ltb}
+use Rattle.std.proofs.Common.{le-ltb, lt-ltb}
 use Rattle.word.proofs.Forms.{less_form}
 use Rattle.word.proofs.less.Goals as goal
 

@@ -1,5 +1,5 @@
 -- `word::multiply` meets its contract: the product of two words fits 64 bits.
-use Rattle.std.proofs.Common.{ℕ, ◌*◌, ◌^◌, ◌<◌, sym, lt_of_le_of_lt, le_of_lt, mul-le-mul_left, mul-lt-mul_of_pos_right, lit<, rules}
+use Rattle.std.proofs.Common.{ℕ, ◌*◌, ◌^◌, ◌<◌, sym, lt_of_le_of_lt, le_of_lt, mul-le-mul_left, mul-lt-mul_of_pos_right, lit<}
 use Rattle.word.specs.Operation.{multiply}
 use Rattle.word.specs.LowBits.Arithmetic.{product}
 use Rattle.word.proofs.Forms.{word_form}

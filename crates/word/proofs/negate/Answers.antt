@@ -1,5 +1,5 @@
 -- `word::negate` meets its contract.
-use Rattle.std.proofs.Common.{arith, rules}
+use Rattle.std.proofs.Common.{arith}
 use Rattle.word.proofs.Forms.{negate_form}
 use Rattle.word.proofs.negate.Goals as goal
 

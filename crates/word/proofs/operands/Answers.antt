@@ -1,5 +1,5 @@
 -- `word::operands` meets its contract: the code's table is the definition's, and past its end there is no operation.
-use Rattle.std.proofs.Common.{sym, refl, rules}
+use Rattle.std.proofs.Common.{sym, refl}
 use lib.ListN.{get_or-eq_default}
 use Rattle.word.specs.Operation.{operand_table, operands}
 use Rattle.word.proofs.operands.Goals as goal

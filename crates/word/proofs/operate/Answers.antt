@@ -1,5 +1,5 @@
 -- `word::operate` meets its contract: each arm is the operation of its number.
-use Rattle.std.proofs.Common.{rules, ne_eqb}
+use Rattle.std.proofs.Common.{ne_eqb}
 use Rattle.word.specs.Operation.{operate}
 use Rattle.word.proofs.operate.Goals as goal
 

@@ -1,5 +1,5 @@
 -- `word::quotient` meets its contract.
-use Rattle.std.proofs.Common.{rules, eq-eqb, ne_eqb}
+use Rattle.std.proofs.Common.{eq-eqb, ne_eqb}
 use Rattle.word.proofs.Forms.{quotient_form, absolute-some}
 use Rattle.word.proofs.quotient.Goals as goal
 

@@ -1,5 +1,5 @@
 -- `word::remainder` meets its contract.
-use Rattle.std.proofs.Common.{rules, eq-eqb, ne_eqb}
+use Rattle.std.proofs.Common.{eq-eqb, ne_eqb}
 use Rattle.word.proofs.Forms.{remainder_form, absolute-some}
 use Rattle.word.proofs.remainder.Goals as goal
 

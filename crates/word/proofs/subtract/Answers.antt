@@ -1,5 +1,5 @@
 -- `word::subtract` meets its contract.
-use Rattle.std.proofs.Common.{arith, rules}
+use Rattle.std.proofs.Common.{arith}
 use Rattle.word.specs.Operation.{subtract}
 use Rattle.word.specs.LowBits.Arithmetic.{difference}
 use Rattle.word.proofs.Forms.{word_form}

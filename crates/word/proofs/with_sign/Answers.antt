@@ -1,5 +1,5 @@
 -- `word::with_sign` meets its contract.
-use Rattle.std.proofs.Common.{◌∙◌, rules}
+use Rattle.std.proofs.Common.{◌∙◌}
 use Rattle.word.proofs.Forms.{negate_form}
 use Rattle.word.proofs.with_sign.Goals as goal
 

@@ -12,10 +12,10 @@ use borrow.Author.Rules.{rules}
 use Rattle.flat.proofs.check.instructions_ok.Goals as goal
 
 pub returns-then-not-instruction_ok : goal.returns-then-not-instruction_ok
-returns-then-not-instruction_ok c = sym (check_fails c.loop-own.invariant.1.1 c.loop-own-test.true c.instruction_ok.ensures c.instruction_at.ensures (not-true _ c.if-not-instruction_ok.true-raw))
+returns-then-not-instruction_ok c = sym (check_fails c.loop-own.invariant.1.1 c.loop-own-test.true c.instruction_ok.ensures c.instruction_at.ensures (c.if-not-instruction_ok.true))
 
 pub loop-own-preserved : goal.loop-own-preserved
-loop-own-preserved c = (omega arith, (omega arith, check_goes c.loop-own.invariant.1.1 c.loop-own-test.true c.instruction_ok.ensures c.instruction_at.ensures (not-false _ c.if-not-instruction_ok.false-raw)))
+loop-own-preserved c = (omega arith, (omega arith, check_goes c.loop-own.invariant.1.1 c.loop-own-test.true c.instruction_ok.ensures c.instruction_at.ensures (c.if-not-instruction_ok.false)))
 
 pub returns : goal.returns
 returns c = sym (checked-all c.loop-own.invariant.1.1 c.loop-own-test.false)
