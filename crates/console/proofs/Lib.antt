@@ -1,3 +1,5 @@
 pub mod Bounds
 pub mod Blocks
 pub mod Moves
+pub mod Reading
+pub mod Written

@@ -1,3 +1,4 @@
 pub mod Held
 pub mod Coded
 pub mod Block
+pub mod Messages

@@ -1,12 +1,16 @@
-// The part of an input that a buffer holds: read on as it is played.
-ghost use Rattle.std.specs.Prelude.{◌<◌, ◌≤◌, [], length};
+// The part of an input that a buffer holds: read on as it is played. A read that fails is the caller's to answer: it has
+// taken nothing from the input, and the bytes that the buffer holds are as they were.
+ghost use Rattle.std.specs.Prelude.{◌≡◌, ℕ, ◌-◌, ◌<◌, ◌≤◌, [], length, take, drop, IfOk, OnErr};
+ghost use Rattle.std.specs.Io.KnownBytes.{Consumes, IsAtEnd, Keeps};
 ghost use Rattle.console.specs.Held.{Stands, Grown, Moved};
 
 use crate::messages::print_malformed;
+use std::io;
+use std::io::{Read, Write};
 
 // What is to be played: the bytes of the buffer from `at` to `end`, whose first line has this number in the input, modulo
 // 2^64. The input may give more as long as it is open; nothing is left to do when it is over.
-#[derive(Drop)]
+#[derive(Clone, Copy)]
 pub struct Rest {
     pub at: usize,
     pub end: usize,
@@ -16,12 +20,36 @@ pub struct Rest {
 }
 
 // One read into the free part of the buffer; gives where the bytes that it holds end.
-pub fn read_more(from: i32, buffer: &mut [u8], end: usize) -> usize
+pub fn read_more<R: Read>(from: &mut R, buffer: &mut [u8], end: usize) -> io::Result<usize>
     requires { end ≤ length buffer.old }
-    ensures { Grown end buffer.new result }
+    ensures grown { IfOk result (Grown end buffer.new) }
+    ensures held { take end buffer.new ≡ take end buffer.old }
+    ensures taken { IfOk result (λ n. Consumes (R.remaining from.old) (R.remaining from.new)
+        (take (n - end) (drop end buffer.new))) }
+    ensures last { IfOk result (λ n. n ≡ end → end < length buffer.new → IsAtEnd (R.remaining from.new)) }
+    ensures failed { OnErr result (Keeps (R.remaining from.old) (R.remaining from.new)) }
 {
-    let got = libc::read(from, &mut buffer[end..]);
-    end + io::count(got, &buffer[end..])
+    let got = from.read(&mut buffer[end..])?;
+    Ok(end + got)
+}
+
+// Reads until the buffer is full or the input ends; gives how many bytes stand in front.
+pub fn read_full<R: Read>(from: &mut R, buffer: &mut [u8]) -> io::Result<usize>
+    ensures within { IfOk result (λ n. n ≤ length buffer.new) }
+    ensures taken { IfOk result (λ n. Consumes (R.remaining from.old) (R.remaining from.new) (take n buffer.new)) }
+    ensures last { IfOk result (λ n. n < length buffer.new → IsAtEnd (R.remaining from.new)) }
+    ensures failed { OnErr result ((n : ℕ) × (n ≤ length buffer.new)
+        × Consumes (R.remaining from.old) (R.remaining from.new) (take n buffer.new)) }
+{
+    let mut end: usize = 0;
+    while end < buffer.len() {
+        let next = read_more(from, buffer, end)?;
+        if next == end {
+            break;
+        }
+        end = next;
+    }
+    Ok(end)
 }
 
 // The bytes from `at` to `end` go to the front; gives how many.
@@ -74,28 +102,33 @@ fn end_line(buffer: &mut [u8], held: usize, line: u64) -> Rest
 
 // No whole line is left: what there is of one goes to the front, and the input is read on. A line that fills the buffer
 // without its line feed is malformed.
-pub fn read_on(from: i32, buffer: &mut [u8], rest: Rest) -> Rest
+pub fn read_on<R: Read, W: Write>(
+    from: &mut R,
+    out: &mut W,
+    buffer: &mut [u8],
+    rest: Rest,
+) -> io::Result<Rest>
     requires { Stands rest buffer.old }
-    ensures { Stands result buffer.new }
+    ensures { IfOk result (λ r. Stands r buffer.new) }
 {
     let line = rest.line;
     let held = move_front(buffer, rest.at, rest.end);
     if held == buffer.len() {
-        print_malformed(line);
-        return over(line);
+        print_malformed(out, line)?;
+        return Ok(over(line));
     }
     if !rest.open {
-        return end_line(buffer, held, line);
+        return Ok(end_line(buffer, held, line));
     }
-    let end = read_more(from, buffer, held);
+    let end = read_more(from, buffer, held)?;
     if end == held {
-        return end_line(buffer, held, line);
+        return Ok(end_line(buffer, held, line));
     }
-    Rest {
+    Ok(Rest {
         at: 0,
         end: end,
         line: line,
         open: true,
         over: false,
-    }
+    })
 }

@@ -6,5 +6,6 @@ mod messages;
 mod playing;
 mod translating;
 
+pub use held::read_full;
 pub use playing::{play, play_held};
 pub use translating::translate;

@@ -1,16 +1,19 @@
 // A circuit played on the samples behind it: the column file, an empty line, then a line a tick.
-ghost use Rattle.std.specs.Prelude.{◌*◌, ◌≤◌, length};
+ghost use Rattle.std.specs.Prelude.{◌≡◌, ◌*◌, ◌<◌, ◌≤◌, length, IfOk, OnOk};
+ghost use Rattle.std.specs.Io.KnownBytes.{Keeps};
 ghost use Rattle.flat.specs.Code.{input_count};
 ghost use Rattle.flat.specs.Steps.{Header};
 ghost use Rattle.console.specs.Held.{Stands};
 ghost use Rattle.console.specs.Coded.{Coded};
-ghost use Rattle.console.specs.Block.{BlockPut};
+ghost use Rattle.console.specs.Block.{BlockPut, BlockPlayed};
 
 use crate::held::{Rest, over, read_more, read_on};
 use crate::messages::{print_malformed, print_refusal};
 use column::{ENOUGH_BYTES, ReadAnswer};
 use flat::format::{CODE_NUMBERS, INPUTS, OUTPUTS};
 use player::{Stop, circuit_bytes, put_ticks, read_block};
+use std::io;
+use std::io::{Read, Write};
 use std::num::wrapping_add_u64;
 use translator::TranslateAnswer;
 use word::index;
@@ -18,54 +21,62 @@ use word::limits::{CELLS, CONTROLS, TABLE_NUMBERS};
 
 // Reads until the empty line behind the circuit is there, the input ends, or the file has a 513th line; gives where the
 // bytes that are held end.
-fn read_circuit(from: i32, buffer: &mut [u8], held: usize) -> usize
+fn read_circuit<R: Read>(from: &mut R, buffer: &mut [u8], held: usize) -> io::Result<usize>
     requires { held ≤ length buffer.old }
-    ensures { result ≤ length buffer.new }
+    ensures { IfOk result (λ n. n ≤ length buffer.new) }
 {
     let mut end: usize = held;
     loop {
         if circuit_bytes(&buffer[..end]) < end {
-            return end;
+            return Ok(end);
         }
         if ENOUGH_BYTES <= end {
-            return end;
+            return Ok(end);
         }
-        let next = read_more(from, buffer, end);
+        let next = read_more(from, buffer, end)?;
         if next == end {
-            return end;
+            return Ok(end);
         }
         end = next;
     }
 }
 
 // The code of a table; gives how many numbers it has, and none where the table is refused, which is printed.
-fn translate_table(table: &[u32], code: &mut [u32; CODE_NUMBERS]) -> usize
-    ensures { Coded code.new result }
+fn translate_table<W: Write>(
+    out: &mut W,
+    table: &[u32],
+    code: &mut [u32; CODE_NUMBERS],
+) -> io::Result<usize>
+    ensures { IfOk result (Coded code.new) }
 {
     let answer = translator::translate(table, code);
     match answer {
         TranslateAnswer::Refused(r) => {
-            print_refusal(r);
-            0
+            print_refusal(out, r)?;
+            Ok(0)
         }
-        TranslateAnswer::Numbers(n) => index(n),
+        TranslateAnswer::Numbers(n) => Ok(index(n)),
     }
 }
 
 // The same of a column file.
-fn translate_file(file: &[u8], code: &mut [u32; CODE_NUMBERS]) -> usize
-    ensures { Coded code.new result }
+fn translate_file<W: Write>(
+    out: &mut W,
+    file: &[u8],
+    code: &mut [u32; CODE_NUMBERS],
+) -> io::Result<usize>
+    ensures { IfOk result (Coded code.new) }
 {
     let mut table = [0u32; TABLE_NUMBERS];
     let answer = column::read(file, &mut table);
     match answer {
         ReadAnswer::Refused(r) => {
-            print_refusal(r);
-            0
+            print_refusal(out, r)?;
+            Ok(0)
         }
         ReadAnswer::Nodes(n) => {
             let count = 3 * index(n);
-            translate_table(&table[..count], code)
+            translate_table(out, &table[..count], code)
         }
     }
 }
@@ -95,22 +106,26 @@ fn put_block(
     put_ticks(&outputs, ticks, index(code[OUTPUTS]), text)
 }
 
-// Plays a block of ticks; gives whether its lines could be written.
-fn play_ticks(
+// Plays a block of ticks and writes its lines; of no tick nothing.
+fn play_ticks<W: Write>(
+    out: &mut W,
     code: &[u32],
     ticks: usize,
     samples: &[u32],
     controls: &[u32],
     cells: &mut [u32],
-) -> bool
+) -> io::Result<()>
     requires { Header code.now × ((ticks ≤ 256) × (ticks * input_count code.now ≤ length samples.now)) }
+    ensures played { 0 < ticks → OnOk result (BlockPlayed code.now ticks samples.now controls.now
+        cells.old (W.contents out.old) cells.new (W.contents out.new)) }
+    ensures idle { ticks ≡ 0 → (cells.new ≡ cells.old) × Keeps (W.contents out.old) (W.contents out.new) }
 {
     if ticks == 0 {
-        return true;
+        return Ok(());
     }
     let mut text = [0u8; 98304];
     let bytes = put_block(code, ticks, samples, controls, cells, &mut text);
-    io::write_all(1, &text[..bytes])
+    out.write_all(&text[..bytes])
 }
 
 // A control holds from the next tick on.
@@ -122,89 +137,99 @@ fn set_control(controls: &mut [u32], slot: u32, value: u32) {
 }
 
 // Plays the ticks that stand first in the rest, and what ends them.
-fn play_block(
-    from: i32,
+fn play_block<R: Read, W: Write>(
+    from: &mut R,
+    out: &mut W,
     code: &[u32],
     controls: &mut [u32],
     cells: &mut [u32],
     buffer: &mut [u8],
     rest: Rest,
-) -> Rest
+) -> io::Result<Rest>
     requires { Header code.now × Stands rest buffer.old }
-    ensures { Stands result buffer.new }
+    ensures { IfOk result (λ r. Stands r buffer.new) }
 {
     let at = rest.at;
     let end = rest.end;
     let mut samples = [0u32; 8192];
     let block = read_block(&buffer[at..end], index(code[INPUTS]), &mut samples);
     let line = wrapping_add_u64(rest.line, block.ticks as u64);
-    if !play_ticks(code, block.ticks, &samples, controls, cells) {
-        return over(line);
-    }
+    play_ticks(out, code, block.ticks, &samples, controls, cells)?;
     let mut next = rest;
     next.at = at + block.bytes;
     next.line = line;
     let stop = block.stop;
     match stop {
-        Stop::Full => next,
-        Stop::Rest => read_on(from, buffer, next),
+        Stop::Full => Ok(next),
+        Stop::Rest => read_on(from, out, buffer, next),
         Stop::Malformed => {
-            print_malformed(line);
-            over(line)
+            print_malformed(out, line)?;
+            Ok(over(line))
         }
         Stop::Control(slot, value) => {
             set_control(controls, slot, value);
             next.line = wrapping_add_u64(line, 1);
-            next
+            Ok(next)
         }
     }
 }
 
 // Plays block after block; nothing says that an input ends, so the blocks are counted.
-fn play_blocks(
-    from: i32,
+fn play_blocks<R: Read, W: Write>(
+    from: &mut R,
+    out: &mut W,
     code: &[u32],
     controls: &mut [u32],
     cells: &mut [u32],
     buffer: &mut [u8],
     first: Rest,
-)
+) -> io::Result<()>
     requires { Header code.now × Stands first buffer.old }
 {
     let mut rest = first;
-    let mut left: u64 = 18446744073709551615;
-    while 0 < left {
-        rest = play_block(from, code, controls, cells, buffer, rest);
+    for _ in 0..u64::MAX {
+        rest = play_block(from, out, code, controls, cells, buffer, rest)?;
         if rest.over {
-            return;
+            break;
         }
-        left -= 1;
     }
+    Ok(())
 }
 
 // Plays a code on cleared cells, with controls that are 0.
-fn play_code(from: i32, code: &[u32], buffer: &mut [u8], first: Rest)
+fn play_code<R: Read, W: Write>(
+    from: &mut R,
+    out: &mut W,
+    code: &[u32],
+    buffer: &mut [u8],
+    first: Rest,
+) -> io::Result<()>
     requires { Header code.now × Stands first buffer.old }
 {
     let mut cells = [0u32; CELLS];
     let mut controls = [0u32; CONTROLS];
     cells::load(code[flat::format::CELLS], &mut cells);
-    play_blocks(from, code, &mut controls, &mut cells, buffer, first);
+    play_blocks(from, out, code, &mut controls, &mut cells, buffer, first)
 }
 
 // Plays an input of which the buffer holds so many bytes.
-fn play_input(from: i32, buffer: &mut [u8], held: usize)
+fn play_input<R: Read, W: Write>(
+    from: &mut R,
+    out: &mut W,
+    buffer: &mut [u8],
+    held: usize,
+) -> io::Result<()>
     requires { held ≤ length buffer.old }
 {
-    let end = read_circuit(from, buffer, held);
+    let end = read_circuit(from, buffer, held)?;
     let circuit = circuit_bytes(&buffer[..end]);
     let mut code = [0u32; CODE_NUMBERS];
-    let numbers = translate_file(&buffer[..circuit], &mut code);
+    let numbers = translate_file(out, &buffer[..circuit], &mut code)?;
     if numbers == 0 {
-        return;
+        return Ok(());
     }
     if circuit == end {
-        return;
+        return Ok(());
     }
     // a circuit that is right has 41 bytes a line, and the empty line follows
     let first = Rest {
@@ -214,21 +239,21 @@ fn play_input(from: i32, buffer: &mut [u8], held: usize)
         open: true,
         over: false,
     };
-    play_code(from, &code[..numbers], buffer, first);
+    play_code(from, out, &code[..numbers], buffer, first)
 }
 
-// Plays what a descriptor gives, as it comes.
-pub fn play(from: i32) {
+// Plays an input as it comes. A failed read or write ends it: what was written until then stays.
+pub fn play<R: Read, W: Write>(from: &mut R, out: &mut W) -> io::Result<()> {
     let mut buffer = [0u8; 65536];
-    play_input(from, &mut buffer, 0);
+    play_input(from, out, &mut buffer, 0)
 }
 
 // Plays an input that is at hand, of at most 65,536 bytes; of a longer one nothing.
-pub fn play_held(input: &[u8]) {
+pub fn play_held<W: Write>(out: &mut W, input: &[u8]) -> io::Result<()> {
     let mut buffer = [0u8; 65536];
     if 65536 < input.len() {
-        return;
+        return Ok(());
     }
-    bytes::copy(input, &mut buffer);
-    play_input(-1, &mut buffer, input.len());
+    buffer[..input.len()].copy_from_slice(input);
+    play_input(&mut io::empty(), out, &mut buffer, input.len())
 }

@@ -1,6 +1,8 @@
 // Plays the examples of docs/FORMAT.md on the entries.
 #![tactic(auto)]
 
-fn main() {
-    script::play();
+use std::io;
+
+fn main(rt: HostRuntime) -> io::Result<()> {
+    script::play(&mut rt.stdin(), &mut rt.stdout())
 }

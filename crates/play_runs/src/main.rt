@@ -1,90 +1,107 @@
 // Plays inputs of every kind, each from a file of its name, and some again as bytes at hand.
 #![tactic(auto)]
 
-use os::open_read;
+use std::rt::Files;
+use std::{fs, io};
 
-fn play_file(name: &[u8]) {
-    io::write_all(1, name);
-    io::write_all(1, b"\n");
-    let from = open_read(name);
-    console::play(from);
-    libc::close(from);
+fn play_file<R: Files + Print>(rt: &R, name: &str) -> io::Result<()> {
+    println!(rt; "{name}")?;
+    let mut from = fs::open(rt, name)?;
+    console::play(&mut from, &mut io::writer(rt))
 }
 
-fn play_again(name: &[u8]) {
-    io::write_all(1, name);
-    io::write_all(1, b" held\n");
-    let from = open_read(name);
-    let mut input = io::large_buffer();
-    let count = io::read_full(from, &mut input);
-    libc::close(from);
-    console::play_held(&input[..count]);
+fn play_again<R: Files + Print>(rt: &R, name: &str) -> io::Result<()> {
+    println!(rt; "{name} held")?;
+    let mut from = fs::open(rt, name)?;
+    let mut input = [0u8; 65536];
+    let count = console::read_full(&mut from, &mut input)?;
+    console::play_held(&mut io::writer(rt), &input[..count])
 }
 
 // What is played.
-fn play_played() {
-    play_file(b"ondemand_integrator");
-    play_file(b"ondemand_cable");
-    play_file(b"no_inputs");
-    play_file(b"no_outputs");
-    play_file(b"wide");
-    play_file(b"controls");
-    play_file(b"control_after_256");
-    play_file(b"spaces");
-    play_file(b"last_line_open");
-    play_file(b"last_control_open");
-    play_file(b"no_samples");
-    play_file(b"many_lines");
-    play_file(b"longest_lines");
+fn play_played<R: Files + Print>(rt: &R) -> io::Result<()> {
+    for name in [
+        "ondemand_integrator",
+        "ondemand_cable",
+        "no_inputs",
+        "no_outputs",
+        "wide",
+        "controls",
+        "control_after_256",
+        "spaces",
+        "last_line_open",
+        "last_control_open",
+        "no_samples",
+        "many_lines",
+        "longest_lines",
+    ] {
+        play_file(rt, name)?;
+    }
+    Ok(())
 }
 
 // What ends with a malformed line.
-fn play_malformed() {
-    play_file(b"too_few");
-    play_file(b"too_many");
-    play_file(b"no_number");
-    play_file(b"plus");
-    play_file(b"leading_zero");
-    play_file(b"minus_zero");
-    play_file(b"above_32_bits");
-    play_file(b"below_32_bits");
-    play_file(b"tab");
-    play_file(b"carriage_return");
-    play_file(b"slot_16");
-    play_file(b"slot_negative");
-    play_file(b"control_short");
-    play_file(b"control_long");
-    play_file(b"control_capital");
-    play_file(b"control_no_number");
-    play_file(b"empty_line");
-    play_file(b"number_without_inputs");
-    play_file(b"line_too_long");
-    play_file(b"malformed_open");
-    play_file(b"malformed_after_256");
+fn play_malformed<R: Files + Print>(rt: &R) -> io::Result<()> {
+    for name in [
+        "too_few",
+        "too_many",
+        "no_number",
+        "plus",
+        "leading_zero",
+        "minus_zero",
+        "above_32_bits",
+        "below_32_bits",
+        "tab",
+        "carriage_return",
+        "slot_16",
+        "slot_negative",
+        "control_short",
+        "control_long",
+        "control_capital",
+        "control_no_number",
+        "empty_line",
+        "number_without_inputs",
+        "line_too_long",
+        "malformed_open",
+        "malformed_after_256",
+    ] {
+        play_file(rt, name)?;
+    }
+    Ok(())
 }
 
 // What is refused, or has no samples.
-fn play_refused() {
-    play_file(b"refused_kind");
-    play_file(b"refused_line");
-    play_file(b"refused_number");
-    play_file(b"no_empty_line");
-    play_file(b"line_feed_missing");
-    play_file(b"nothing");
-    play_file(b"empty_line_first");
-    play_file(b"lines_512");
-    play_file(b"lines_512_and_a_byte");
-    play_file(b"lines_512_and_more");
+fn play_refused<R: Files + Print>(rt: &R) -> io::Result<()> {
+    for name in [
+        "refused_kind",
+        "refused_line",
+        "refused_number",
+        "no_empty_line",
+        "line_feed_missing",
+        "nothing",
+        "empty_line_first",
+        "lines_512",
+        "lines_512_and_a_byte",
+        "lines_512_and_more",
+    ] {
+        play_file(rt, name)?;
+    }
+    Ok(())
 }
 
-fn main() {
-    play_played();
-    play_malformed();
-    play_refused();
-    play_again(b"ondemand_integrator");
-    play_again(b"controls");
-    play_again(b"last_line_open");
-    play_again(b"too_many");
-    play_again(b"nothing");
-    play_again(b"lines_512");
+fn main(rt: HostRuntime) -> io::Result<()> {
+    play_played(&rt)?;
+    play_malformed(&rt)?;
+    play_refused(&rt)?;
+    for name in [
+        "ondemand_integrator",
+        "controls",
+        "last_line_open",
+        "too_many",
+        "nothing",
+        "lines_512",
+    ] {
+        play_again(&rt, name)?;
+    }
+    Ok(())
 }

@@ -10,6 +10,8 @@ mod text;
 ghost use Rattle.std.specs.Prelude.{◌≤◌};
 
 use lines::argument;
+use std::io;
+use std::io::{Read, Write};
 use text::{find, is, read_list};
 use word::index;
 
@@ -20,7 +22,7 @@ pub(crate) const UNTOUCHED: u32 = 9;
 pub(crate) const SECOND: usize = 2000;
 
 // How much of each buffer is set.
-#[derive(Drop)]
+#[derive(Clone, Copy)]
 pub(crate) struct Sizes {
     pub table: usize,
     pub second: usize,
@@ -32,7 +34,7 @@ pub(crate) struct Sizes {
 }
 
 // What a line leaves: the sizes, and how many bytes after the line belong to it.
-#[derive(Drop)]
+#[derive(Clone, Copy)]
 struct Step {
     sizes: Sizes,
     taken: usize,
@@ -101,78 +103,83 @@ fn set_file(line: &[u8], rest: &[u8], file: &mut [u8]) -> usize {
     if file.len() < count {
         return 0;
     }
-    bytes::copy(&rest[0..count], file);
+    file[..count].copy_from_slice(&rest[0..count]);
     count
 }
 
 // The lines that need no memory.
-fn play_table(
+fn play_table<W: Write>(
+    out: &mut W,
     line: &[u8],
     sizes: Sizes,
     tables: &mut [u32],
     code: &mut [u32],
     file: &mut [u8],
     buffer: &mut [u32],
-) -> Sizes {
+) -> io::Result<Sizes> {
     let mut s = sizes;
     if is(line, b"check") {
-        lines::check_line(tables, s.table);
-        return s;
+        lines::check_line(out, tables, s.table)?;
+        return Ok(s);
     }
     if is(line, b"read") {
-        let count = lines::read_line(line, s, file, tables, buffer);
+        let count = lines::read_line(out, line, s, file, tables, buffer)?;
         s.table = count;
-        return s;
+        return Ok(s);
     }
     if is(line, b"join") {
-        let count = lines::join_line(line, s, tables, buffer);
+        let count = lines::join_line(out, line, s, tables, buffer)?;
         s.table = count;
-        return s;
+        return Ok(s);
     }
     if is(line, b"write") {
-        let count = lines::write_line(line, s, tables, file);
+        let count = lines::write_line(out, line, s, tables, file)?;
         s.file = count;
-        return s;
+        return Ok(s);
     }
     if is(line, b"translate") {
-        let count = lines::translate_line(line, s, tables, code, buffer);
+        let count = lines::translate_line(out, line, s, tables, code, buffer)?;
         s.code = count;
-        return s;
+        return Ok(s);
     }
     if is(line, b"print") {
-        lines::print_line(file, s.file);
-        return s;
+        lines::print_line(out, file, s.file)?;
+        return Ok(s);
     }
     if is(line, b"play") {
-        lines::samples_line(file, s.file);
-        return s;
+        lines::samples_line(out, file, s.file)?;
+        return Ok(s);
     }
-    s
+    Ok(s)
 }
 
 // The lines that need no table.
-fn play_memory(line: &[u8], walked: &mut [u32], ran: &mut [u32]) {
+fn play_memory<W: Write>(
+    out: &mut W,
+    line: &[u8],
+    walked: &mut [u32],
+    ran: &mut [u32],
+) -> io::Result<()> {
     if is(line, b"#") {
-        show::text(line);
-        show::text(b"\n");
-        return;
+        show::text(out, line)?;
+        return show::text(out, b"\n");
     }
     if is(line, b"memory") {
         lines::memory_line(line, walked, ran);
-        return;
+        return Ok(());
     }
     if is(line, b"load") {
-        lines::load_line(line, walked, ran);
-        return;
+        return lines::load_line(out, line, walked, ran);
     }
     if is(line, b"cells") {
-        lines::cells_line(line, walked, ran);
-        return;
+        return lines::cells_line(out, line, walked, ran);
     }
+    Ok(())
 }
 
 // A block of the program of this size.
-fn play_program(
+fn play_program<W: Write>(
+    out: &mut W,
     line: &[u8],
     walks: bool,
     size: usize,
@@ -182,19 +189,20 @@ fn play_program(
     controls: &[u32],
     cells: &mut [u32],
     buffer: &mut [u32],
-) {
+) -> io::Result<()> {
     let i = sizes.inputs;
     let k = sizes.controls;
     if program.len() < size {
-        return;
+        return Ok(());
     }
     if inputs.len() < i {
-        return;
+        return Ok(());
     }
     if controls.len() < k {
-        return;
+        return Ok(());
     }
     lines::block_line(
+        out,
         line,
         walks,
         &program[0..size],
@@ -202,11 +210,12 @@ fn play_program(
         &controls[0..k],
         cells,
         buffer,
-    );
+    )
 }
 
 // The lines that walk or run a block.
-fn play_block(
+fn play_block<W: Write>(
+    out: &mut W,
     line: &[u8],
     s: Sizes,
     table: &[u32],
@@ -216,17 +225,18 @@ fn play_block(
     walked: &mut [u32],
     ran: &mut [u32],
     buffer: &mut [u32],
-) {
+) -> io::Result<()> {
     if is(line, b"walk") {
-        play_program(
-            line, true, s.table, s, table, inputs, controls, walked, buffer,
+        return play_program(
+            out, line, true, s.table, s, table, inputs, controls, walked, buffer,
         );
-        return;
     }
     if is(line, b"run") {
-        play_program(line, false, s.code, s, code, inputs, controls, ran, buffer);
-        return;
+        return play_program(
+            out, line, false, s.code, s, code, inputs, controls, ran, buffer,
+        );
     }
+    Ok(())
 }
 
 // The line that is followed by the bytes of a file.
@@ -244,7 +254,8 @@ fn play_file(line: &[u8], rest: &[u8], sizes: Sizes, file: &mut [u8]) -> Step {
 }
 
 // One line, with the text after it.
-fn play_line(
+fn play_line<W: Write>(
+    out: &mut W,
     line: &[u8],
     rest: &[u8],
     sizes: Sizes,
@@ -258,15 +269,17 @@ fn play_line(
     walked: &mut [u32],
     ran: &mut [u32],
     buffer: &mut [u32],
-) -> Step {
-    play_memory(line, walked, ran);
+) -> io::Result<Step> {
+    play_memory(out, line, walked, ran)?;
     let set = set_numbers(line, sizes, tables, code, inputs, controls, probes, latest);
-    let s = play_table(line, set, tables, code, file, buffer);
-    play_block(line, s, tables, code, inputs, controls, walked, ran, buffer);
+    let s = play_table(out, line, set, tables, code, file, buffer)?;
+    play_block(
+        out, line, s, tables, code, inputs, controls, walked, ran, buffer,
+    )?;
     probed::play_probed(
-        line, s, tables, probes, inputs, controls, walked, buffer, latest,
-    );
-    play_file(line, rest, s, file)
+        out, line, s, tables, probes, inputs, controls, walked, buffer, latest,
+    )?;
+    Ok(play_file(line, rest, s, file))
 }
 
 // So many bytes on, or the end.
@@ -281,7 +294,8 @@ fn behind(from: usize, count: usize, end: usize) -> usize
 }
 
 // A piece of a script, line by line.
-fn play_piece(
+fn play_piece<W: Write>(
+    out: &mut W,
     piece: &[u8],
     sizes: Sizes,
     tables: &mut [u32],
@@ -294,16 +308,17 @@ fn play_piece(
     walked: &mut [u32],
     ran: &mut [u32],
     buffer: &mut [u32],
-) -> Sizes {
+) -> io::Result<Sizes> {
     let mut s = sizes;
     let mut at: usize = 0;
     while at < piece.len() {
         let end = find(piece, at, b'\n');
         if end == piece.len() {
-            return s;
+            return Ok(s);
         }
         let next = end + 1;
         let step = play_line(
+            out,
             &piece[at..end],
             &piece[next..],
             s,
@@ -317,15 +332,17 @@ fn play_piece(
             walked,
             ran,
             buffer,
-        );
+        )?;
         s = step.sizes;
         at = behind(next, step.taken, piece.len());
     }
-    s
+    Ok(s)
 }
 
-// The script on standard input, piece by piece.
-fn play_pieces(
+// The script, piece by piece.
+fn play_pieces<R: Read, W: Write>(
+    from: &mut R,
+    out: &mut W,
     piece: &mut [u8],
     tables: &mut [u32],
     code: &mut [u32],
@@ -337,7 +354,7 @@ fn play_pieces(
     walked: &mut [u32],
     ran: &mut [u32],
     buffer: &mut [u32],
-) {
+) -> io::Result<()> {
     let mut sizes = Sizes {
         table: 0,
         second: 0,
@@ -349,11 +366,12 @@ fn play_pieces(
     };
     let mut left: u32 = 1000;
     while 0 < left {
-        let count = io::read_full(0, piece);
+        let count = console::read_full(from, piece)?;
         if count == 0 {
-            return;
+            return Ok(());
         }
         sizes = play_piece(
+            out,
             &piece[..count],
             sizes,
             tables,
@@ -366,13 +384,14 @@ fn play_pieces(
             walked,
             ran,
             buffer,
-        );
+        )?;
         left -= 1;
     }
+    Ok(())
 }
 
-// Plays the script on standard input.
-pub fn play() {
+// Plays a script.
+pub fn play<R: Read, W: Write>(from: &mut R, out: &mut W) -> io::Result<()> {
     let mut piece = [0u8; 65536];
     let mut tables = [0u32; 4000];
     let mut code = [0u32; 13000];
@@ -385,6 +404,8 @@ pub fn play() {
     let mut ran = [0u32; 17000];
     let mut buffer = [0u32; 131200];
     play_pieces(
+        from,
+        out,
         &mut piece,
         &mut tables,
         &mut code,
@@ -396,5 +417,5 @@ pub fn play() {
         &mut walked,
         &mut ran,
         &mut buffer,
-    );
+    )
 }

@@ -1,6 +1,8 @@
 // The lines of a script that make a call: their numbers say how much of the buffers is lent.
 use crate::text::{put_run, read_list};
 use crate::{SECOND, Sizes, UNTOUCHED, calls, show};
+use std::io;
+use std::io::Write;
 use word::index;
 
 // The first number after a word of so many bytes.
@@ -10,25 +12,25 @@ pub fn argument(line: &[u8], word: usize) -> u32 {
     numbers[0]
 }
 
-pub fn check_line(table: &[u32], size: usize) {
+pub fn check_line<W: Write>(out: &mut W, table: &[u32], size: usize) -> io::Result<()> {
     if table.len() < size {
-        return;
+        return Ok(());
     }
-    calls::check_table(&table[0..size]);
+    calls::check_table(out, &table[0..size])
 }
 
-pub fn print_line(file: &[u8], size: usize) {
+pub fn print_line<W: Write>(out: &mut W, file: &[u8], size: usize) -> io::Result<()> {
     if file.len() < size {
-        return;
+        return Ok(());
     }
-    calls::print_file(&file[0..size]);
+    calls::print_file(out, &file[0..size])
 }
 
-pub fn samples_line(file: &[u8], size: usize) {
+pub fn samples_line<W: Write>(out: &mut W, file: &[u8], size: usize) -> io::Result<()> {
     if file.len() < size {
-        return;
+        return Ok(());
     }
-    console::play_held(&file[0..size]);
+    console::play_held(out, &file[0..size])
 }
 
 // The first numbers of a list into another.
@@ -47,33 +49,40 @@ fn copy(from: &[u32], to: &mut [u32], count: usize) {
 }
 
 // `read L`; gives the size of the table.
-pub fn read_line(
+pub fn read_line<W: Write>(
+    out: &mut W,
     line: &[u8],
     sizes: Sizes,
     file: &[u8],
     table: &mut [u32],
     buffer: &mut [u32],
-) -> usize {
+) -> io::Result<usize> {
     let lent = argument(line, 4);
     let size = sizes.file;
     let count = index(lent);
     put_run(buffer, 0, UNTOUCHED, lent);
     if file.len() < size {
-        return sizes.table;
+        return Ok(sizes.table);
     }
     if buffer.len() < count {
-        return sizes.table;
+        return Ok(sizes.table);
     }
-    let read = calls::read_file(&file[0..size], &mut buffer[0..count]);
+    let read = calls::read_file(out, &file[0..size], &mut buffer[0..count])?;
     if read == 0 {
-        return sizes.table;
+        return Ok(sizes.table);
     }
     copy(buffer, table, read);
-    read
+    Ok(read)
 }
 
 // `join K L`; gives the size of the table.
-pub fn join_line(line: &[u8], sizes: Sizes, tables: &mut [u32], buffer: &mut [u32]) -> usize {
+pub fn join_line<W: Write>(
+    out: &mut W,
+    line: &[u8],
+    sizes: Sizes,
+    tables: &mut [u32],
+    buffer: &mut [u32],
+) -> io::Result<usize> {
     let mut numbers = [0u32; 2];
     read_list(line, 4, &mut numbers);
     let count = index(numbers[1]);
@@ -81,108 +90,130 @@ pub fn join_line(line: &[u8], sizes: Sizes, tables: &mut [u32], buffer: &mut [u3
     let first = sizes.table;
     let second = sizes.second;
     if SECOND < second {
-        return first;
+        return Ok(first);
     }
     let end = SECOND + second;
     if tables.len() < first {
-        return first;
+        return Ok(first);
     }
     if tables.len() < end {
-        return first;
+        return Ok(first);
     }
     if buffer.len() < count {
-        return first;
+        return Ok(first);
     }
     let written = calls::join_tables(
+        out,
         numbers[0],
         &tables[0..first],
         &tables[SECOND..end],
         &mut buffer[0..count],
-    );
+    )?;
     if written == 0 {
-        return first;
+        return Ok(first);
     }
     copy(buffer, tables, written);
-    written
+    Ok(written)
 }
 
 // `write L` into the first bytes of a buffer; gives the size of the file.
-fn write_part(
+fn write_part<W: Write>(
+    out: &mut W,
     count: usize,
     sizes: Sizes,
     table: &[u32],
     file: &mut [u8],
     buffer: &mut [u8],
-) -> usize {
+) -> io::Result<usize> {
     let size = sizes.table;
     if table.len() < size {
-        return sizes.file;
+        return Ok(sizes.file);
     }
     if buffer.len() < count {
-        return sizes.file;
+        return Ok(sizes.file);
     }
-    let written = calls::write_table(&table[0..size], &mut buffer[0..count]);
+    let written = calls::write_table(out, &table[0..size], &mut buffer[0..count])?;
     if written == 0 {
-        return sizes.file;
+        return Ok(sizes.file);
     }
     if file.len() < buffer.len() {
-        return sizes.file;
+        return Ok(sizes.file);
     }
-    bytes::copy(buffer, file);
-    written
+    file[..buffer.len()].copy_from_slice(buffer);
+    Ok(written)
 }
 
-pub fn write_line(line: &[u8], sizes: Sizes, table: &[u32], file: &mut [u8]) -> usize {
+pub fn write_line<W: Write>(
+    out: &mut W,
+    line: &[u8],
+    sizes: Sizes,
+    table: &[u32],
+    file: &mut [u8],
+) -> io::Result<usize> {
     let mut buffer = [b'.'; 21100];
-    write_part(index(argument(line, 5)), sizes, table, file, &mut buffer)
+    write_part(
+        out,
+        index(argument(line, 5)),
+        sizes,
+        table,
+        file,
+        &mut buffer,
+    )
 }
 
 // `translate L`; gives the size of the code.
-pub fn translate_line(
+pub fn translate_line<W: Write>(
+    out: &mut W,
     line: &[u8],
     sizes: Sizes,
     table: &[u32],
     code: &mut [u32],
     buffer: &mut [u32],
-) -> usize {
+) -> io::Result<usize> {
     let lent = argument(line, 9);
     let size = sizes.table;
     let count = index(lent);
     put_run(buffer, 0, UNTOUCHED, lent);
     if table.len() < size {
-        return sizes.code;
+        return Ok(sizes.code);
     }
     if buffer.len() < count {
-        return sizes.code;
+        return Ok(sizes.code);
     }
-    let written = calls::translate_table(&table[0..size], &mut buffer[0..count]);
+    let written = calls::translate_table(out, &table[0..size], &mut buffer[0..count])?;
     if written == 0 {
-        return sizes.code;
+        return Ok(sizes.code);
     }
     copy(buffer, code, written);
-    written
+    Ok(written)
 }
 
 // `load N L` on one memory.
-fn load_one(named: u32, lent: usize, cells: &mut [u32]) {
+fn load_one<W: Write>(out: &mut W, named: u32, lent: usize, cells: &mut [u32]) -> io::Result<()> {
     if cells.len() < lent {
-        return;
+        return Ok(());
     }
-    calls::load_cells(named, &mut cells[0..lent]);
+    calls::load_cells(out, named, &mut cells[0..lent])
 }
 
-pub fn load_line(line: &[u8], walked: &mut [u32], ran: &mut [u32]) {
+pub fn load_line<W: Write>(
+    out: &mut W,
+    line: &[u8],
+    walked: &mut [u32],
+    ran: &mut [u32],
+) -> io::Result<()> {
     let mut numbers = [0u32; 2];
     read_list(line, 4, &mut numbers);
     let lent = index(numbers[1]);
-    show::text(b"load");
-    load_one(numbers[0], lent, walked);
-    load_one(numbers[0], lent, ran);
-    show::text(b"\n");
+    show::text(out, b"load")?;
+    load_one(out, numbers[0], lent, walked)?;
+    load_one(out, numbers[0], lent, ran)?;
+    show::text(out, b"\n")
 }
 
 // `walk T C O` and `run T C O` on lent parts; the program is a table or a code.
-fn block_part(
+fn block_part<W: Write>(
+    out: &mut W,
     walks: bool,
     ticks: u32,
     lent: usize,
@@ -192,15 +223,16 @@ fn block_part(
     controls: &[u32],
     cells: &mut [u32],
     buffer: &mut [u32],
-) {
+) -> io::Result<()> {
     if cells.len() < lent {
-        return;
+        return Ok(());
     }
     if buffer.len() < count {
-        return;
+        return Ok(());
     }
     if walks {
-        calls::walk_block(
+        return calls::walk_block(
+            out,
             program,
             ticks,
             inputs,
@@ -208,20 +240,21 @@ fn block_part(
             &mut cells[0..lent],
             &mut buffer[0..count],
         );
-        return;
     }
     calls::run_block(
+        out,
         program,
         ticks,
         inputs,
         controls,
         &mut cells[0..lent],
         &mut buffer[0..count],
-    );
+    )
 }
 
 // The word is a walk's, of 4 bytes, or a run's, of 3.
-pub fn block_line(
+pub fn block_line<W: Write>(
+    out: &mut W,
     line: &[u8],
     walks: bool,
     program: &[u32],
@@ -229,12 +262,13 @@ pub fn block_line(
     controls: &[u32],
     cells: &mut [u32],
     buffer: &mut [u32],
-) {
+) -> io::Result<()> {
     let mut numbers = [0u32; 3];
     let word = if walks { 4 } else { 3 };
     read_list(line, word, &mut numbers);
     put_run(buffer, 0, UNTOUCHED, numbers[2]);
     block_part(
+        out,
         walks,
         numbers[0],
         index(numbers[1]),
@@ -244,16 +278,21 @@ pub fn block_line(
         controls,
         cells,
         buffer,
-    );
+    )
 }
 
 // `cells C`
-pub fn cells_line(line: &[u8], walked: &[u32], ran: &[u32]) {
+pub fn cells_line<W: Write>(
+    out: &mut W,
+    line: &[u8],
+    walked: &[u32],
+    ran: &[u32],
+) -> io::Result<()> {
     let count = index(argument(line, 5));
-    show::text(b"walked");
-    show::first(walked, count);
-    show::text(b"ran");
-    show::first(ran, count);
+    show::text(out, b"walked")?;
+    show::first(out, walked, count)?;
+    show::text(out, b"ran")?;
+    show::first(out, ran, count)
 }
 
 // `memory V`

@@ -1,6 +1,8 @@
 // The line of a walk with probes: its numbers say how much of the buffers is lent.
 use crate::text::{is, put_run, read_list};
 use crate::{Sizes, UNTOUCHED, calls};
+use std::io;
+use std::io::Write;
 use word::index;
 
 // The longest recording.
@@ -17,7 +19,8 @@ struct Lent {
 }
 
 // `probed T C O L R` on lent parts.
-fn probed_part(
+fn probed_part<W: Write>(
+    out: &mut W,
     lent: Lent,
     table: &[u32],
     probes: &[u32],
@@ -27,24 +30,25 @@ fn probed_part(
     buffer: &mut [u32],
     latest: &mut [u32],
     recording: &mut [u32],
-) {
+) -> io::Result<()> {
     let c = lent.cells;
     let o = lent.outputs;
     let l = lent.latest;
     let r = lent.recording;
     if cells.len() < c {
-        return;
+        return Ok(());
     }
     if buffer.len() < o {
-        return;
+        return Ok(());
     }
     if latest.len() < l {
-        return;
+        return Ok(());
     }
     if recording.len() < r {
-        return;
+        return Ok(());
     }
     calls::probed_block(
+        out,
         table,
         probes,
         lent.ticks,
@@ -54,10 +58,11 @@ fn probed_part(
         &mut buffer[0..o],
         &mut latest[0..l],
         &mut recording[0..r],
-    );
+    )
 }
 
-fn probed_line(
+fn probed_line<W: Write>(
+    out: &mut W,
     line: &[u8],
     table: &[u32],
     probes: &[u32],
@@ -66,7 +71,7 @@ fn probed_line(
     cells: &mut [u32],
     buffer: &mut [u32],
     latest: &mut [u32],
-) {
+) -> io::Result<()> {
     let mut numbers = [0u32; 5];
     read_list(line, 6, &mut numbers);
     put_run(buffer, 0, UNTOUCHED, numbers[2]);
@@ -79,6 +84,7 @@ fn probed_line(
         recording: index(numbers[4]),
     };
     probed_part(
+        out,
         lent,
         table,
         probes,
@@ -88,11 +94,12 @@ fn probed_line(
         buffer,
         latest,
         &mut recording,
-    );
+    )
 }
 
 // The line, with as much of each list as is set.
-pub fn play_probed(
+pub fn play_probed<W: Write>(
+    out: &mut W,
     line: &[u8],
     sizes: Sizes,
     table: &[u32],
@@ -102,27 +109,28 @@ pub fn play_probed(
     cells: &mut [u32],
     buffer: &mut [u32],
     latest: &mut [u32],
-) {
+) -> io::Result<()> {
     let t = sizes.table;
     let p = sizes.probes;
     let i = sizes.inputs;
     let k = sizes.controls;
     if !is(line, b"probed") {
-        return;
+        return Ok(());
     }
     if table.len() < t {
-        return;
+        return Ok(());
     }
     if probes.len() < p {
-        return;
+        return Ok(());
     }
     if inputs.len() < i {
-        return;
+        return Ok(());
     }
     if controls.len() < k {
-        return;
+        return Ok(());
     }
     probed_line(
+        out,
         line,
         &table[0..t],
         &probes[0..p],
@@ -131,5 +139,5 @@ pub fn play_probed(
         cells,
         buffer,
         latest,
-    );
+    )
 }

@@ -1,32 +1,30 @@
 // What a script prints.
 use refusal::Refusal;
+use std::io;
+use std::io::Write;
 
-const OUT: i32 = 1;
-
-pub fn text(bytes: &[u8]) {
-    io::write_all(OUT, bytes);
+pub fn text<W: Write>(out: &mut W, bytes: &[u8]) -> io::Result<()> {
+    out.write_all(bytes)
 }
 
 // A word as the signed number that it stands for.
-fn signed(word: u32) {
+fn signed<W: Write>(out: &mut W, word: u32) -> io::Result<()> {
     if word < 2147483648 {
-        io::print_decimal(OUT, word as u64);
-        return;
+        return write!(out, "{word}");
     }
-    text(b"-");
-    io::print_decimal(OUT, 4294967296 - word as u64);
+    write!(out, "-{}", 4294967296 - word as u64)
 }
 
-pub fn number(word: u32) {
-    text(b" ");
-    signed(word);
+pub fn number<W: Write>(out: &mut W, word: u32) -> io::Result<()> {
+    text(out, b" ")?;
+    signed(out, word)
 }
 
 // Number and place.
-pub fn refused(refusal: Refusal) {
-    text(b" refused");
-    number(refusal::number(refusal));
-    number(refusal::place(refusal));
+pub fn refused<W: Write>(out: &mut W, refusal: Refusal) -> io::Result<()> {
+    text(out, b" refused")?;
+    number(out, refusal::number(refusal))?;
+    number(out, refusal::place(refusal))
 }
 
 // Where the numbers equal to `value` end that begin at `from`.
@@ -42,28 +40,27 @@ fn run_end(list: &[u32], from: usize, value: u32) -> usize {
 }
 
 // All numbers, equal ones in a row as one with their count.
-pub fn list(list: &[u32]) {
+pub fn list<W: Write>(out: &mut W, list: &[u32]) -> io::Result<()> {
     let mut at: usize = 0;
     while at < list.len() {
         let value = list[at];
         let end = run_end(list, at, value);
         if end <= at {
-            return;
+            return Ok(());
         }
-        number(value);
+        number(out, value)?;
         if end - at > 1 {
-            text(b"*");
-            io::print_decimal(OUT, (end - at) as u64);
+            write!(out, "*{}", end - at)?;
         }
         at = end;
     }
-    text(b"\n");
+    text(out, b"\n")
 }
 
 // The first numbers of a list.
-pub fn first(numbers: &[u32], count: usize) {
+pub fn first<W: Write>(out: &mut W, numbers: &[u32], count: usize) -> io::Result<()> {
     if numbers.len() < count {
-        return;
+        return Ok(());
     }
-    list(&numbers[0..count]);
+    list(out, &numbers[0..count])
 }

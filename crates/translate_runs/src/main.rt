@@ -1,26 +1,29 @@
 // The translator on further files: 512 lines, what lies about that limit, refusals, and nothing at all.
 #![tactic(auto)]
 
+use std::rt::Files;
+use std::{fs, io};
 
 // A file's name, and what the translator prints of it.
-fn run(name: &[u8]) {
-    io::write_all(1, name);
-    io::write_all(1, b"\n");
-    let file = os::open_read(name);
-    if file < 0 {
-        os::fail(name);
-        return;
+fn run<R: Files + Print + Eprint>(rt: &R, name: &str) -> io::Result<()> {
+    println!(rt; "{name}")?;
+    match fs::open(rt, name) {
+        Ok(mut file) => console::translate(&mut file, &mut io::writer(rt)),
+        Err(error) => eprintln!(rt; "{name}: {error}"),
     }
-    console::translate(file);
-    libc::close(file);
 }
 
-fn main() {
-    run(b"lines_512");
-    run(b"lines_512_and_a_feed");
-    run(b"lines_512_and_a_byte");
-    run(b"lines_513");
-    run(b"wrong_column");
-    run(b"unknown_kind");
-    run(b"nothing");
+fn main(rt: HostRuntime) -> io::Result<()> {
+    for name in [
+        "lines_512",
+        "lines_512_and_a_feed",
+        "lines_512_and_a_byte",
+        "lines_513",
+        "wrong_column",
+        "unknown_kind",
+        "nothing",
+    ] {
+        run(&rt, name)?;
+    }
+    Ok(())
 }

@@ -1,0 +1,9 @@
+use Rattle.std.proofs.Common.{sym, arith, length-take-le}
+use Rattle.listing.proofs.Files.{read-within}
+use Rattle.console.proofs.playing.translate_file.Goals as goal
+
+pub slice_bounds-table-end : goal.slice_bounds-table-end
+slice_bounds-table-end g c = omega (arith, c.index-count.ensures, read-within _ _ _ _ c.read-answer.ensures _ c.in-Nodes.is)
+
+pub slice_bounds-translate_table-end : goal.slice_bounds-translate_table-end
+slice_bounds-translate_table-end g c = sym (length-take-le _ _ (omega (arith, c.index-count.ensures, read-within _ _ _ _ c.read-answer.ensures _ c.in-Nodes.is)))
