@@ -1,6 +1,6 @@
 /* Faust circuits on 32-bit integer samples: tables, flat code, walker and runner.
  *
- * Link with target/staticlib/libcircuit.a (x86-64 Linux), which `rt staticlib circuit` writes. What each function
+ * Link with target/staticlib/libcircuit.a (x86-64 Linux), which `tools/build archive` writes. What each function
  * does is proved, for all numbers in the buffers: the contracts are in crates/circuit/src/lib.rt.
  *
  * Numbers. The numbers of tables, codes, probes, cells, inputs, controls, outputs and recordings are int32_t, since a

@@ -9,7 +9,7 @@ fn main() {
     let archive = folder.join("libcircuit.a");
     println!("cargo::rerun-if-changed={}", archive.display());
     if !archive.is_file() {
-        println!("cargo::error={named}/libcircuit.a is missing: run `rt staticlib circuit` in the repository first");
+        println!("cargo::error={named}/libcircuit.a is missing: run `tools/build archive` in the repository first");
         return;
     }
     println!("cargo::rustc-link-search=native={}", folder.display());

@@ -36,7 +36,7 @@ fn output(program: &str, pieces: Vec<Vec<u8>>) -> String {
         .spawn()
         .unwrap_or_else(|error| {
             panic!(
-                "{}: {error}; run `rt check {program}` first",
+                "{}: {error}; run `tools/build programs` first",
                 path.display()
             )
         });

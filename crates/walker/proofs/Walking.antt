@@ -15,7 +15,6 @@ use Rattle.cells.specs.Block.{with_report, ran_as, ticks_of, Played, played_as, 
 use Rattle.cells.specs.Cells.{store}
 use Rattle.cells.proofs.Calls.{few, block_says}
 use Rattle.cells.proofs.Parts.{store_parts}
-use Rattle.arity.specs.Tree.{ins}
 use Rattle.arity.specs.Table.{nodes, circuit}
 use Rattle.calls.specs.Probes.{Noted, noted_as, recorded}
 use Rattle.calls.specs.Probed.{Probed, probed_as, probes_of, probes_ok, untouched, watches, probed}

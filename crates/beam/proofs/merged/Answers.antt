@@ -1,13 +1,10 @@
 -- `beam::merged` meets its contract.
-use Prim.Native.Nat.{ℕ, ◌+◌, ◌-◌, ◌/◌, ◌≤◌}
-use mathlib.Core.Path.{◌≡◌, ap, ◌∙◌}
-use mathlib.Core.List.{◌++◌}
+use Prim.Native.Nat.{ℕ, ◌+◌, ◌-◌, ◌/◌}
+use mathlib.Core.Path.{ap, ◌∙◌}
 use native.Mathlib.Omega.{arith}
-use borrow.Author.Rules.{rules}
-use lib.ListN.{length, take, length-set}
-use native.Mathlib.Nat.{div-le_self, le-div_iff_mul-le, one-mul, sub-zero}
-use Rattle.signal.specs.Signal.{sum_from, sums_from}
-use Rattle.beam.proofs.Sums.{sums_next, sums_done}
+use lib.ListN.{take, length-set}
+use Rattle.signal.specs.Signal.{sum_from}
+use Rattle.beam.proofs.Sums.{sums_next}
 use Rattle.beam.proofs.merged.Goals as goal
 
 pub loop-i-preserved : goal.loop-i-preserved

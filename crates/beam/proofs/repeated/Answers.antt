@@ -1,10 +1,8 @@
 -- `beam::repeated` meets its contract.
-use Prim.Native.Nat.{◌-◌, ◌≤◌}
 use mathlib.Core.Path.{◌≡◌, refl}
 use native.Mathlib.Omega.{arith}
-use borrow.Author.Rules.{rules}
-use lib.ListN.{length, take, length-set}
-use Rattle.beam.proofs.Copies.{Repeats, repeats_start, repeats_next, repeats_all}
+use lib.ListN.{length, length-set}
+use Rattle.beam.proofs.Copies.{repeats_next, repeats_all}
 use Rattle.beam.proofs.repeated.Goals as goal
 
 pub loop-i-preserved : goal.loop-i-preserved

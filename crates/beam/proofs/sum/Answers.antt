@@ -1,11 +1,8 @@
 -- `beam::sum` meets its contract.
-use Prim.Native.Nat.{◌+◌, ◌*◌, ◌≤◌}
-use mathlib.Core.Path.{◌≡◌, refl, sym, ◌∙◌}
+use mathlib.Core.Path.{◌∙◌}
 use native.Mathlib.Omega.{arith}
-use borrow.Author.Rules.{rules}
 use lib.ListN.{take}
-use Rattle.beam.proofs.Sums.{sum-next, sum_done}
-use Rattle.signal.specs.Signal.{sum_from}
+use Rattle.beam.proofs.Sums.{sum-next}
 use Rattle.beam.proofs.sum.Goals as goal
 
 pub loop-left-preserved : goal.loop-left-preserved

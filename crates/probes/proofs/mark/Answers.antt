@@ -1,9 +1,7 @@
 -- `probes::mark` meets its contract.
-use Prim.Native.Nat.{ℕ, ◌-◌, ◌≤◌}
-use mathlib.Core.Path.{refl, subst}
+use mathlib.Core.Path.{refl}
 use native.Mathlib.Omega.{arith}
-use Rattle.probes.specs.Marks.{Marked}
-use Rattle.probes.proofs.Marking.{Marking, none-marked, mark-most, has_room, room_enters, one_more}
+use Rattle.probes.proofs.Marking.{none-marked, mark-most, has_room, room_enters, one_more}
 use Rattle.probes.proofs.mark.Goals as goal
 
 pub loop-k-init : goal.loop-k-init

@@ -1,12 +1,7 @@
 -- `probes::note` meets its contract.
-use Prim.Native.Nat.{ℕ, ◌-◌}
 use mathlib.Core.Path.{refl}
-use mathlib.Core.List.{List}
 use native.Mathlib.Omega.{arith}
-use lib.ListN.{length}
-use Rattle.probes.specs.Marks.{Probing, Marked}
-use Rattle.probes.proofs.Marking.{mark-most}
-use Rattle.probes.proofs.Noting.{row_of, row_fits, entry_shows, Noting, noting_starts, noting_next, none-noted, all_noted}
+use Rattle.probes.proofs.Noting.{row_of, row_fits, entry_shows, noting_next, none-noted, all_noted}
 use Rattle.probes.proofs.note.Goals as goal
 
 -- whichever probes have these marks

@@ -1,20 +1,11 @@
 -- `walker::play` meets its contract.
-use mathlib.Core.Path.{◌≡◌, refl, ◌∙◌}
-use mathlib.Core.List.{List}
-use Prim.Native.Nat.{ℕ, ◌+◌, ◌≤◌}
+use mathlib.Core.Path.{◌∙◌}
 use native.Mathlib.Omega.{arith}
-use lib.ListN.{length}
-use Rattle.cells.specs.Block.{ticks_of, played}
-use Rattle.cells.proofs.Playing.{Playing, begins, reads_fit, writes_fit, ends}
-use Rattle.arity.specs.Table.{circuit}
-use Rattle.calls.specs.Probes.{recorded}
+use Rattle.cells.proofs.Playing.{reads_fit, writes_fit, ends}
 use Rattle.calls.specs.Probed.{probes_of}
-use Rattle.walker.specs.Ready.{base, step_of}
-use Rattle.walker.specs.Probing.{Watching}
 use Rattle.walker.proofs.Showing.{watching-kept, watched-kept, noting, noted_showed}
-use Rattle.walker.proofs.Recording.{Recording, record_begins, record_fits, record_ends}
-use Rattle.walker.proofs.Ticking.{one_at_most, root_in, inputs-few, outputs-few, reads-few, writes-few, records_few, ticks-on, records_on}
-use borrow.Author.Rules.{rules}
+use Rattle.walker.proofs.Recording.{record_fits, record_ends}
+use Rattle.walker.proofs.Ticking.{one_at_most, root_in, outputs-few, records_few, ticks-on, records_on}
 use Rattle.walker.proofs.play.Goals as goal
 
 -- the samples, and, whichever probes have these marks, the recording; the clipped ticks are among those played, so that their count fits a word

@@ -2,7 +2,6 @@
 use mathlib.Core.Path.{ap, ◌∙◌}
 use Rattle.calls.specs.Probed.{Probed}
 use Rattle.walker.proofs.SameAsWalk.{no_probes}
-use borrow.Author.Rules.{rules}
 use Rattle.walker.proofs.walk.Goals as goal
 
 pub returns : goal.returns

@@ -1,10 +1,8 @@
 -- `walker::walk_circuit` meets its contract.
 use mathlib.Core.Path.{sym, ◌∙◌}
-use mathlib.Core.Logic.{⊎_elim, inl, inr}
+use mathlib.Core.Logic.{inl, inr}
 use native.Mathlib.Omega.{arith}
-use borrow.Author.Tests.{not-true, not-false, ltb-true, ltb-false}
-use Rattle.walker.proofs.Walking.{inputs-few, too_many, wrong_block, wrong_probes, total-few, all-few, short-buffer, short_list, walkable, watchable, not-refused}
-use borrow.Author.Rules.{rules}
+use Rattle.walker.proofs.Walking.{too_many, wrong_block, wrong_probes, all-few, short-buffer, short_list, walkable, watchable, not-refused}
 use Rattle.walker.proofs.walk_circuit.Goals.{then-cells-need-via-then-cells-need, then-cells-need-via-else-cells-need+then-outputs-total, then-latest-watched-via-then-latest-watched, then-latest-watched-via-else-latest-watched+then-recording-t}
 use Rattle.walker.proofs.walk_circuit.Goals as goal
 

@@ -1,7 +1,6 @@
 -- `walker::walk_probed` meets its contract.
 use mathlib.Core.Path.{refl, ◌∙◌}
 use Rattle.walker.proofs.Tables.{has_survey, probed_by_lem}
-use borrow.Author.Rules.{rules}
 use Rattle.walker.proofs.walk_probed.Goals as goal
 
 pub walk_circuit-requires : goal.walk_circuit-requires

@@ -1,10 +1,7 @@
 -- `walker::walk_ticks` meets its contract.
 use mathlib.Core.Path.{refl, sym, ◌∙◌}
-use native.Mathlib.Omega.{arith}
-use lib.Seq.{length-take-le}
 use Rattle.walker.proofs.Showing.{probing}
-use Rattle.walker.proofs.Walking.{playable, samples-few, recordings-few, watching, recordable, all-walked, stored_over}
-use borrow.Author.Rules.{rules}
+use Rattle.walker.proofs.Walking.{watching, all-walked, stored_over}
 use Rattle.walker.proofs.walk_ticks.Goals as goal
 
 pub mark-requires : goal.mark-requires

@@ -1,10 +1,7 @@
 -- `walker::named::all_outputs` meets its contract.
-use Prim.Native.Nat.{◌+◌, ◌*◌, ◌≤◌}
-use mathlib.Core.Path.{◌≡◌, refl, sym, ◌∙◌}
+use mathlib.Core.Path.{sym, ◌∙◌}
 use native.Mathlib.Omega.{arith}
-use lib.ListN.{length}
-use borrow.Author.Tests.{not-true, not-false}
-use Rattle.walker.proofs.Naming.{all_from, all_here, all_none}
+use Rattle.walker.proofs.Naming.{all_none}
 use Rattle.walker.proofs.named.all_outputs.Goals as goal
 
 pub returns : goal.returns

@@ -1,5 +1,5 @@
 -- `walker::named::probes_ok` meets its contract.
-use borrow.Author.Tests.{eq-eqb, ne_eqb, le-leb, lt-leb}
+use borrow.Author.Tests.{eq-eqb, le-leb, lt-leb}
 use Rattle.walker.proofs.Naming.{count-is}
 use Rattle.walker.proofs.named.probes_ok.Goals as goal
 

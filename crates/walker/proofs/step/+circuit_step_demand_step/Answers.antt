@@ -1,6 +1,6 @@
 -- `walker::step::circuit_step` and `walker::step::demand_step` meet their contracts. What a node is made of is left to functions outside the cycle.
 use Prim.Native.Nat.{ℕ, ◌≤◌, ◌<◌}
-use mathlib.Core.Path.{◌≡◌, refl, sym, ap, subst, ◌∙◌}
+use mathlib.Core.Path.{◌≡◌, refl, sym, subst, ◌∙◌}
 use mathlib.Core.List.{List}
 use native.Mathlib.Omega.{arith}
 use Rattle.arity.specs.Table.{nodes, kind_at}

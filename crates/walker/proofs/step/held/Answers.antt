@@ -1,9 +1,5 @@
 -- `walker::step::held` meets its contract.
-use mathlib.Core.Path.{◌≡◌, subst₂}
-use Prim.Native.Nat.{ℕ}
 use native.Mathlib.Omega.{arith}
-use lib.ListN.{take}
-use Rattle.cells.specs.Cells.{part}
 use Rattle.walker.proofs.Leaves.{cell_at, outs-at, outs-few, held-room}
 use Rattle.walker.proofs.step.held.Goals as goal
 

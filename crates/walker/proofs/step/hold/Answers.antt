@@ -1,11 +1,6 @@
 -- `walker::step::hold` meets its contract.
-use mathlib.Core.Path.{◌≡◌, subst₂}
-use Prim.Native.Nat.{ℕ}
 use native.Mathlib.Omega.{arith}
-use lib.ListN.{take}
-use Rattle.cells.specs.Cells.{store}
 use Rattle.walker.proofs.Leaves.{cell_at, outs-at, outs-few, held-room}
-use borrow.Author.Rules.{rules}
 use Rattle.walker.proofs.step.hold.Goals as goal
 
 pub keep-requires : goal.keep-requires

@@ -2,7 +2,6 @@
 use mathlib.Core.Path.{sym, ◌∙◌}
 use native.Mathlib.Omega.{arith}
 use Rattle.walker.proofs.Leaves.{ins-at, cell_at, delay-small, delay-room, number_ticked, control_ticked, operation_ticked, delay_ticked, cable_ticked, cut_ticked, sixth}
-use borrow.Author.Rules.{rules}
 use Rattle.walker.proofs.step.leaf_step.Goals as goal
 
 pub returns-then-kind-eq1 : goal.returns-then-kind-eq1

@@ -1,8 +1,7 @@
 -- `walker::wiring::finish` meets its contract.
 use mathlib.Core.Path.{sym, ◌∙◌}
 use native.Mathlib.Omega.{arith}
-use Rattle.walker.proofs.Wires.{own-few, left-few, right-few, own-cell, left-outputs, right-inputs, right-outputs, parallel-room, cells-room, right_few_inputs, finished_parallel, finished_recursion, finished_other}
-use borrow.Author.Rules.{rules}
+use Rattle.walker.proofs.Wires.{own-cell, left-outputs, right-inputs, right-outputs, parallel-room, cells-room, right_few_inputs, finished_parallel, finished_recursion, finished_other}
 use Rattle.walker.proofs.wiring.finish.Goals as goal
 
 pub joined-requires : goal.joined-requires

@@ -1,8 +1,7 @@
 -- `walker::wiring::first_input` meets its contract.
 use mathlib.Core.Path.{sym, ◌∙◌}
 use native.Mathlib.Omega.{arith}
-use Rattle.walker.proofs.Wires.{own-few, right-few, own-cell, right-inputs, cells-room, right_few_inputs, first_fed, first-same}
-use borrow.Author.Rules.{rules}
+use Rattle.walker.proofs.Wires.{own-cell, right-inputs, cells-room, right_few_inputs, first-same}
 use Rattle.walker.proofs.wiring.first_input.Goals as goal
 
 pub fetched-requires : goal.fetched-requires

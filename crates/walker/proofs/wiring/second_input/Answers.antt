@@ -1,8 +1,7 @@
 -- `walker::wiring::second_input` meets its contract.
 use mathlib.Core.Path.{sym, ◌∙◌}
 use native.Mathlib.Omega.{arith}
-use Rattle.walker.proofs.Wires.{own-few, left-few, right-few, own-inputs, left-inputs, left-outputs, right-inputs, right-outputs, left_few_inputs, left_few_outputs, right_few_inputs, merge-room, recursion-room, fifth, second-sequence, second-parallel, second-split, second-merge, second-recursion}
-use borrow.Author.Rules.{rules}
+use Rattle.walker.proofs.Wires.{own-inputs, left-inputs, left-outputs, right-inputs, right-outputs, left_few_outputs, merge-room, recursion-room, fifth, second-parallel, second-split, second-recursion}
 use Rattle.walker.proofs.wiring.second_input.Goals as goal
 
 pub returns-then-kind-eq8 : goal.returns-then-kind-eq8
