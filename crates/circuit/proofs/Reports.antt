@@ -1,16 +1,16 @@
 -- No walk and no run reports more ticks than a call may bring, so that the report has room in an answer.
-use Prim.Native.Nat.{ℕ, ◌*◌, ◌≤◌}
+use Prim.Native.Nat.{ℕ, ◌≤◌}
 use mathlib.Core.Path.{◌≡◌, sym, subst}
 use mathlib.Core.Bool.{Bool, true, false}
 use mathlib.Core.List.{List}
 use native.Mathlib.Omega.{arith}
 use lib.ListN.{length}
 use lib.Dec.{leb}
-use Rattle.word.specs.Choice.{◌and◌, pick}
+use Rattle.word.specs.Choice.{pick}
 use Rattle.word.specs.Limits.{most_ticks, most_cells}
 use Rattle.refusal.specs.Answer.{Answer}
 use Rattle.refusal.specs.Answer.Answer.{counts, refused}
-use Rattle.cells.specs.Block.{Ran, report_of, ran_as, refusal, called}
+use Rattle.cells.specs.Block.{Ran, report_of, ran_as, called}
 use Rattle.cells.proofs.Calls.{few-reported}
 use Rattle.arity.specs.Tree.{Tree, ins, outs}
 use Rattle.arity.specs.Table.{nodes, circuit}
@@ -23,7 +23,7 @@ use Rattle.calls.proofs.SameWalk.End.{watched, refuses}
 use Rattle.walker.specs.Walk.{walked, walked_by, walked_table, probed_circuit, probed_by, probed_table}
 use Rattle.flat.specs.Code.{decode, code_tick}
 use Rattle.flat.specs.Check.{code_ok}
-use Rattle.flat.specs.Run.{checks, ran}
+use Rattle.flat.specs.Run.{ran}
 
 abbrev Few : Ran → Type 0
 Few r = report_of r.answer ≤ most_ticks

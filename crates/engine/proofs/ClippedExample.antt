@@ -15,7 +15,7 @@ use Rattle.signal.specs.Signal.{History}
 use Rattle.signal.specs.Clips.{clips, clipped_ticks}
 use Rattle.flat.specs.Code.{decode, code_tick}
 use Rattle.flat.specs.Check.{instruction_ok, instructions_ok, code_ok}
-use Rattle.flat.specs.Flat.{worked, execute, execute_clips}
+use Rattle.flat.specs.Flat.{worked, execute}
 use Rattle.flat.specs.Run.{ran}
 use Rattle.calls.specs.Calls.{Arguments, Program, Element, reported, history, OthersRefused, answer_to}
 use Rattle.calls.specs.Calls.Element.{own}

@@ -1,9 +1,7 @@
 -- `circuit::circuit_check` meets its contract.
 use mathlib.Core.Path.{refl}
-use lib.ListN.{length-set}
 use native.Mathlib.Omega.{arith}
 use Rattle.circuit.proofs.Answers.{reports, short-report, whole-report}
-use borrow.Author.Rules.{rules}
 use Rattle.circuit.proofs.circuit_check.Goals as goal
 
 pub returns-in-Refused-clause-answer : goal.returns-in-Refused-clause-answer

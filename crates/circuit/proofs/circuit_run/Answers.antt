@@ -1,8 +1,6 @@
 -- `circuit::circuit_run` meets its contract.
 use Rattle.flat.specs.Run.{answer_of}
-use Rattle.circuit.proofs.Answers.{encodes, ran-gives}
 use Rattle.circuit.proofs.Reports.{few-answer, few_case, ran-few}
-use borrow.Author.Rules.{rules}
 use Rattle.circuit.proofs.circuit_run.Goals as goal
 
 pub worked-requires : goal.worked-requires

@@ -1,7 +1,5 @@
 -- `circuit::circuit_walk` meets its contract.
-use Rattle.circuit.proofs.Answers.{ran-gives}
 use Rattle.circuit.proofs.Reports.{few-answer, walked-few}
-use borrow.Author.Rules.{rules}
 use Rattle.circuit.proofs.circuit_walk.Goals as goal
 
 pub walked-requires : goal.walked-requires

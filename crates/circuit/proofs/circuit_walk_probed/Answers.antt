@@ -1,9 +1,7 @@
 -- `circuit::circuit_walk_probed` meets its contract.
 use mathlib.Core.Path.{ap}
 use Rattle.calls.specs.Probed.{Probed}
-use Rattle.circuit.proofs.Answers.{probed-gives}
 use Rattle.circuit.proofs.Reports.{few-answer, probed-few}
-use borrow.Author.Rules.{rules}
 use Rattle.circuit.proofs.circuit_walk_probed.Goals as goal
 
 pub walked-requires : goal.walked-requires

@@ -1,13 +1,8 @@
 -- `flat::play_keyed` meets its contract: playing what is left gives what playing all gives.
-use Prim.Native.Nat.{◌+◌, ◌≤◌}
-use mathlib.Core.Path.{◌≡◌, refl, ◌∙◌}
+use mathlib.Core.Path.{refl, ◌∙◌}
 use native.Mathlib.Omega.{arith}
-use lib.ListN.{length}
 use Rattle.word.proofs.Lists.{bit-few}
-use Rattle.cells.specs.Block.{ticks_of, played}
-use Rattle.flat.specs.Code.{input_count, decode, code_tick}
-use Rattle.cells.proofs.Playing.{Playing, begins, reads_fit, writes_fit, plays_on, ends, part-is, part-long, part_back}
-use borrow.Author.Rules.{rules}
+use Rattle.cells.proofs.Playing.{writes_fit, plays_on, ends, part-is, part-long, part_back}
 use Rattle.flat.proofs.play_keyed.Goals as goal
 
 pub loop-left-preserved : goal.loop-left-preserved

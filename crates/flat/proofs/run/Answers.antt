@@ -1,9 +1,7 @@
 -- `flat::run` meets its contract.
 use mathlib.Core.Path.{sym, ◌∙◌}
-use borrow.Author.Tests.{not-true, not-false}
 use Rattle.flat.proofs.Decoded.{code-header}
 use Rattle.flat.proofs.Runs.{refused_13, passed_13}
-use borrow.Author.Rules.{rules}
 use Rattle.flat.proofs.run.Goals as goal
 
 pub returns-then-not-code_ok : goal.returns-then-not-code_ok

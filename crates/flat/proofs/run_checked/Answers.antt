@@ -1,10 +1,6 @@
 -- `flat::run_checked` meets its contract, refusal by refusal.
 use mathlib.Core.Path.{refl, sym, ◌∙◌}
-use native.Mathlib.Omega.{arith}
-use borrow.Author.Tests.{not-true, not-false}
-use lib.Seq.{length-take-le}
-use Rattle.flat.proofs.Runs.{samples-few, playable, wrong_block, cells-short, outputs-short, accepted}
-use borrow.Author.Rules.{rules}
+use Rattle.flat.proofs.Runs.{wrong_block, cells-short, outputs-short, accepted}
 use Rattle.flat.proofs.run_checked.Goals as goal
 
 pub returns-then-not-block_ok : goal.returns-then-not-block_ok

@@ -1,7 +1,6 @@
 -- `listing::print_table` meets its contract: the print of the translator's answer.
 use mathlib.Core.Path.{sym}
 use native.Mathlib.Omega.{arith}
-use borrow.Author.Rules.{rules}
 use lib.Seq.{length-take-le}
 use Rattle.listing.proofs.Tables.{is_within, is_listable, table-refused, table-listed}
 use Rattle.listing.proofs.print_table.Goals as goal

@@ -1,5 +1,4 @@
 -- `listing::put_line` meets its contract: the part of the text that is lent becomes the line.
-use borrow.Author.Rules.{rules}
 use Rattle.word.proofs.Each.{words_of}
 use Rattle.listing.proofs.Laying.{line-put}
 use Rattle.listing.proofs.put_line.Goals as goal

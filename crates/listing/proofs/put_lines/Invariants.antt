@@ -1,5 +1,4 @@
 -- `listing::put_lines` meets its contract: the lines that are left complete those that are put.
-use Prim.Native.Nat.{◌-◌}
 use Rattle.listing.proofs.Laying.{Laying}
 use Rattle.listing.proofs.put_lines.Given as goal
 

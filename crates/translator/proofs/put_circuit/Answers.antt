@@ -1,8 +1,5 @@
 -- `translator::put_circuit` meets its contract.
-use Rattle.translator.proofs.Tables.{root_inside, inputs-few, root_room, results-room, circuit_stored}
-use borrow.Author.Rules.{rules}
-use mathlib.Core.Path.{◌∙◌}
-use native.Mathlib.Omega.{arith}
+use Rattle.translator.proofs.Tables.{root_inside, root_room, results-room, circuit_stored}
 use Rattle.translator.proofs.put_circuit.Goals as goal
 
 pub emit_node-end-requires : goal.emit_node-end-requires

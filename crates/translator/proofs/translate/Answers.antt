@@ -1,6 +1,5 @@
 -- `translator::translate` meets its contract.
 use Rattle.translator.proofs.Tables.{counted, translated_by_lem}
-use borrow.Author.Rules.{rules}
 use mathlib.Core.Path.{refl, ◌∙◌}
 use Rattle.translator.proofs.translate.Goals as goal
 

@@ -1,8 +1,5 @@
 -- `translator::translate_circuit` meets its contract.
-use Rattle.translator.proofs.Tables.{too_long, too_many, too_short, headed, translated-all, outputs-few}
-use borrow.Author.Rules.{rules}
-use mathlib.Core.Path.{◌∙◌}
-use native.Mathlib.Omega.{arith}
+use Rattle.translator.proofs.Tables.{too_long, too_many, too_short, translated-all}
 use Rattle.translator.proofs.translate_circuit.Goals as goal
 
 pub returns-then-c-gt-MOST_INSTRUCTIONS : goal.returns-then-c-gt-MOST_INSTRUCTIONS

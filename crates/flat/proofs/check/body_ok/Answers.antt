@@ -1,7 +1,6 @@
 -- `flat::check::body_ok` meets its contract.
 use mathlib.Core.Path.{sym, ◌∙◌}
 use Rattle.flat.proofs.Decoded.{body_opened}
-use borrow.Author.Rules.{rules}
 use Rattle.flat.proofs.check.body_ok.Goals as goal
 
 pub returns-then-instructions_ok : goal.returns-then-instructions_ok

@@ -1,7 +1,6 @@
 -- `flat::check::code_ok` meets its contract.
 use mathlib.Core.Path.{sym, ◌∙◌}
-use Rattle.flat.proofs.Decoded.{header_says, code_opened}
-use borrow.Author.Rules.{rules}
+use Rattle.flat.proofs.Decoded.{code_opened}
 use Rattle.flat.proofs.check.code_ok.Goals as goal
 
 pub returns-then-header_ok : goal.returns-then-header_ok

@@ -4,7 +4,6 @@ use native.Mathlib.Numerals.{add-one}
 use native.Mathlib.Omega.{arith}
 use borrow.Author.Tests.{lt-ltb, le-ltb, le-leb, lt-leb, ne_eqb}
 use Rattle.flat.specs.Check.{instruction_ok}
-use borrow.Author.Rules.{rules}
 use Rattle.flat.proofs.check.instruction_ok.Goals as goal
 
 pub returns-in-1 : goal.returns-in-1

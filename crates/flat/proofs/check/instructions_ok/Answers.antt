@@ -1,14 +1,7 @@
 -- `flat::check::instructions_ok` meets its contract: the check of the whole is the check of what is left.
-use Prim.Native.Nat.{◌+◌, ◌-◌, ◌*◌, ◌≤◌}
-use mathlib.Core.Path.{◌≡◌, sym}
+use mathlib.Core.Path.{sym}
 use native.Mathlib.Omega.{arith}
-use borrow.Author.Tests.{not-true, not-false}
-use lib.ListN.{drop}
-use Rattle.flat.specs.Flat.{width}
-use Rattle.flat.specs.Code.{header, results_at, instructions_of}
-use Rattle.flat.specs.Check.{instructions_ok}
-use Rattle.flat.proofs.Decoded.{Checking, checked-all, check_fails, check_goes}
-use borrow.Author.Rules.{rules}
+use Rattle.flat.proofs.Decoded.{checked-all, check_fails, check_goes}
 use Rattle.flat.proofs.check.instructions_ok.Goals as goal
 
 pub returns-then-not-instruction_ok : goal.returns-then-not-instruction_ok

@@ -1,7 +1,5 @@
 -- `flat::keys::key_of` meets its contract.
 use native.Mathlib.Omega.{arith}
-use borrow.Author.Tests.{ne_eqb, lt-ltb, le-ltb}
-use borrow.Author.Rules.{rules}
 use Rattle.word.proofs.OperandCounts.{in_table}
 use Rattle.flat.proofs.keys.key_of.Goals as goal
 

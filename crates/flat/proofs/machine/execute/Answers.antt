@@ -1,12 +1,10 @@
 -- `flat::machine::execute` meets its contract: executing what is left gives the machine that executing all gives.
-use Prim.Native.Nat.{◌+◌, ◌-◌}
-use mathlib.Core.Path.{◌≡◌, refl, ap₂, ◌∙◌}
+use Prim.Native.Nat.{◌+◌}
+use mathlib.Core.Path.{refl, ap₂, ◌∙◌}
 use native.Mathlib.Omega.{arith}
-use lib.ListN.{length, take, drop}
-use Rattle.flat.specs.Flat.{machine, execute as execute_of, execute_clips}
-use Rattle.flat.specs.Code.{header, instructions_of, input_count, instruction_count}
-use Rattle.flat.proofs.Executing.{Going, begin, steppable, next, go_on, arrived, all_told}
-use borrow.Author.Rules.{rules}
+use lib.ListN.{take}
+use Rattle.flat.specs.Flat.{machine}
+use Rattle.flat.proofs.Executing.{begin, steppable, next, go_on, arrived, all_told}
 use Rattle.flat.proofs.machine.execute.Goals as goal
 
 pub loop-own-init : goal.loop-own-init

@@ -1,10 +1,9 @@
 -- `flat::machine::step` meets its contract.
 use Prim.Native.Nat.{◌+◌}
-use mathlib.Core.Path.{refl, ◌∙◌}
+use mathlib.Core.Path.{refl}
 use native.Mathlib.Omega.{arith}
 use lib.ListN.{length-set}
-use Rattle.flat.proofs.Executing.{steppable_works, tells, skip-room, advance}
-use borrow.Author.Rules.{rules}
+use Rattle.flat.proofs.Executing.{tells, skip-room, advance}
 use Rattle.flat.proofs.machine.step.Goals as goal
 
 pub overflow_add-to : goal.overflow_add-to

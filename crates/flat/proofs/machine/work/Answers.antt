@@ -4,7 +4,6 @@ use native.Mathlib.Omega.{arith}
 use Rattle.word.specs.Operation.{operands}
 use Rattle.flat.specs.Flat.{worked}
 use Rattle.flat.proofs.Working.{code_is, skip-left, untold, op_there, third_there, two-work, three-work, control_there, delay_there, cell_there, write_there, clock_there}
-use borrow.Author.Rules.{rules}
 use Rattle.flat.proofs.machine.work.Goals as goal
 
 pub bounds-controls-a : goal.bounds-controls-a

@@ -1,7 +1,6 @@
 -- `flat::tick::run_tick` meets its contract.
 use native.Mathlib.Omega.{arith}
 use Rattle.flat.proofs.Ports.{results-below, ticked}
-use borrow.Author.Rules.{rules}
 use Rattle.flat.proofs.tick.run_tick.Goals as goal
 
 pub gather-requires : goal.gather-requires

@@ -1,6 +1,6 @@
 -- `translator::emit::emit_node` meets its contract. A node's parts are written by functions outside the cycle, and what is still to be written is carried
 -- from part to part.
-use Prim.Native.Nat.{ℕ, ◌≤◌, ◌<◌}
+use Prim.Native.Nat.{ℕ, ◌<◌}
 use mathlib.Core.Path.{◌≡◌, sym, subst, ◌∙◌}
 use mathlib.Core.List.{List}
 use native.Mathlib.Omega.{arith}

@@ -1,7 +1,6 @@
 -- `translator::emit::emit_leaf` meets its contract.
 use Rattle.translator.proofs.Leaves.{leaf_room, leaf_emits, ins-at, number-leaf, control-leaf, operation-leaf, delay-leaf, cable_emits, cut_emits}
 use Rattle.walker.proofs.Leaves.{sixth}
-use borrow.Author.Rules.{rules}
 use mathlib.Core.Path.{sym, ◌∙◌}
 use Rattle.translator.proofs.emit.emit_leaf.Goals as goal
 

@@ -1,12 +1,8 @@
 -- `translator::merge::put_merges` meets its contract.
-use Prim.Native.Nat.{◌-◌, ◌≤◌}
-use Rattle.translator.proofs.Loops.{sum_room, sum-next, sum_stored, sums_done, merge_none}
-use Rattle.translator.proofs.Writing.{Going, start, same-room}
-use Rattle.translator.specs.Emit.{merges}
-use borrow.Author.Rules.{rules}
-use lib.ListN.{length, take, length-set}
-use mathlib.Core.Path.{◌≡◌, refl}
-use native.Mathlib.Nat.{div-le_self, le-div_iff_mul-le, one-mul, sub-zero}
+use Prim.Native.Nat.{◌-◌}
+use Rattle.translator.proofs.Loops.{sum_room, sum-next, sum_stored}
+use lib.ListN.{length-set}
+use native.Mathlib.Nat.{div-le_self}
 use native.Mathlib.Omega.{arith}
 use Rattle.translator.proofs.merge.put_merges.Goals as goal
 

@@ -1,12 +1,5 @@
 -- `translator::merge::put_terms` meets its contract.
-use Prim.Native.Nat.{◌+◌, ◌*◌, ◌≤◌}
-use Rattle.translator.proofs.Loops.{term_room, term_next, terms_done}
-use Rattle.translator.proofs.Writing.{Going, start, same-room, all-written}
-use Rattle.translator.specs.Emit.{terms}
-use borrow.Author.Rules.{rules}
-use lib.ListN.{take}
-use mathlib.Core.List.{[]}
-use mathlib.Core.Path.{sym}
+use Rattle.translator.proofs.Loops.{term_next}
 use native.Mathlib.Omega.{arith}
 use Rattle.translator.proofs.merge.put_terms.Goals as goal
 

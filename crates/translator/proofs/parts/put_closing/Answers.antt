@@ -1,7 +1,6 @@
 -- `translator::parts::put_closing` meets its contract.
 use Rattle.translator.proofs.Sides.{fed_few, kept-room, closes_recursion, closes_other}
-use Rattle.walker.proofs.Wires.{left-few, right-few, own-few, left-outputs, right-inputs, right-outputs, parallel-room, finished_parallel, finished_other}
-use borrow.Author.Rules.{rules}
+use Rattle.walker.proofs.Wires.{left-outputs, right-inputs, right-outputs, parallel-room, finished_parallel, finished_other}
 use mathlib.Core.List.{[]}
 use mathlib.Core.Path.{sym, ◌∙◌}
 use native.Mathlib.Omega.{arith}

@@ -1,8 +1,5 @@
 -- `translator::parts::put_holding` meets its contract.
 use Rattle.translator.proofs.Leaves.{held-few, writes_fit, reads_fit, results_fit, holds}
-use borrow.Author.Rules.{rules}
-use mathlib.Core.Path.{◌∙◌}
-use native.Mathlib.Omega.{arith}
 use Rattle.translator.proofs.parts.put_holding.Goals as goal
 
 pub put_writes-w-requires : goal.put_writes-w-requires

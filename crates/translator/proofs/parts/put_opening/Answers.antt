@@ -1,7 +1,6 @@
 -- `translator::parts::put_opening` meets its contract.
-use Rattle.translator.proofs.Sides.{fed_few, fed_room, fed_ascends, opens_recursion, opens_other}
-use Rattle.walker.proofs.Wires.{right-few, own-few, right-inputs}
-use borrow.Author.Rules.{rules}
+use Rattle.translator.proofs.Sides.{fed_ascends, opens_other}
+use Rattle.walker.proofs.Wires.{right-inputs}
 use mathlib.Core.Path.{sym, ◌∙◌}
 use Rattle.translator.proofs.parts.put_opening.Goals as goal
 

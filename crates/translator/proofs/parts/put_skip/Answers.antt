@@ -1,8 +1,6 @@
 -- `translator::parts::put_skip` meets its contract.
-use Rattle.translator.proofs.Leaves.{body-few, over-few, skip-fits, skips}
-use borrow.Author.Rules.{rules}
+use Rattle.translator.proofs.Leaves.{skips}
 use mathlib.Core.Path.{◌∙◌}
-use native.Mathlib.Omega.{arith}
 use Rattle.translator.proofs.parts.put_skip.Goals as goal
 
 pub returns : goal.returns

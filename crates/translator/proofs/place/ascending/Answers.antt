@@ -1,10 +1,6 @@
 -- `translator::place::ascending` meets its contract.
-use Prim.Native.Nat.{ℕ, ◌+◌, ◌-◌, ◌≤◌}
 use Rattle.translator.proofs.Loops.{ascend_next}
-use Rattle.translator.specs.Emit.{up_from}
-use borrow.Author.Rules.{rules}
-use lib.ListN.{length, take, length-set}
-use mathlib.Core.Path.{◌≡◌, refl, subst}
+use lib.ListN.{length-set}
 use native.Mathlib.Omega.{arith}
 use Rattle.translator.proofs.place.ascending.Goals as goal
 

@@ -1,13 +1,6 @@
 -- `translator::place::put_cells` meets its contract.
-use Prim.Native.Nat.{◌+◌, ◌-◌, ◌≤◌}
 use Rattle.translator.proofs.Loops.{cell_room, cell-next, cells_done}
-use Rattle.translator.proofs.Writing.{Going, start, same-room, all-written}
-use Rattle.translator.specs.Emit.{emitted}
-use Rattle.translator.specs.Writing.{on_cells}
-use borrow.Author.Rules.{rules}
-use lib.ListN.{take, drop}
-use mathlib.Core.List.{[]}
-use mathlib.Core.Path.{◌≡◌}
+use Rattle.translator.proofs.Writing.{all-written}
 use native.Mathlib.Omega.{arith}
 use Rattle.translator.proofs.place.put_cells.Goals as goal
 

@@ -1,6 +1,5 @@
 -- `translator::place::put_reads` meets its contract.
 use Rattle.translator.proofs.Loops.{reads_form}
-use borrow.Author.Rules.{rules}
 use Rattle.translator.proofs.place.put_reads.Goals as goal
 
 pub put_cells-requires : goal.put_cells-requires

@@ -1,6 +1,5 @@
 -- `translator::place::put_writes` meets its contract.
 use Rattle.translator.proofs.Loops.{writes_form}
-use borrow.Author.Rules.{rules}
 use Rattle.translator.proofs.place.put_writes.Goals as goal
 
 pub put_cells-requires : goal.put_cells-requires
