@@ -14,6 +14,7 @@ pub mod Law
 pub mod Cut
 pub mod QuietCells
 pub mod Throughout
+pub mod SamePast
 pub mod Loads
 pub mod SameWalk
 pub mod Watched

@@ -32,7 +32,7 @@ module _ {A : Type 0} (P : A → Type 0) where
   each_after (x ∷ xs) ys (p, ps) = each_after xs ys ps
 
 module _ (work : Program) (at : ℕ) where
-  events_append : (block : List ℕ) (xs ys : List Element) → events work at block (xs ++ ys) ≡ events work at block xs ++ events work at (left work at block xs) ys
+  pub events_append : (block : List ℕ) (xs ys : List Element) → events work at block (xs ++ ys) ≡ events work at block xs ++ events work at (left work at block xs) ys
   unfolding events left
   events_append block [] ys = refl
   events_append block (x ∷ xs) ys = ap (λ es. event_of work at block x ∷ es) (events_append (block_after (call_of work at x) block) xs ys)

@@ -1,0 +1,4 @@
+pub mod File
+pub mod Saved
+pub mod Laws
+pub mod Tests
