@@ -60,14 +60,14 @@ extern "C" {
  * the GNU C library, and its dynamic linker, which looks memset up at the first call, 3.1; the rest is spare. A caller's
  * own frames and signal handlers come on top.
  *
- * Translator and walker have a frame of 1.0 and 1.3 KiB for each node on the way from the circuit down, whatever the
+ * Translator and walker have a frame of 1.2 and 1.3 KiB for each node on the way from the circuit down, whatever the
  * node is. A way has at most 497 of the 512 nodes: an ondemand adds an input, of which there are at most 32, so that 15
  * nodes on it must have a second child. The stack of the others does not depend on what they are given.
  * circuit_walk_probed has the walker's stack. bindings/c/stack_test.c measures all of them, on the deepest circuit, and
  * calls each with just this stack. */
-#define CIRCUIT_STACK_TRANSLATE (504 * 1024) /* 491 KiB */
-#define CIRCUIT_STACK_WALK (692 * 1024)      /* 678 KiB */
-#define CIRCUIT_STACK_RUN (32 * 1024)        /* 17 KiB */
+#define CIRCUIT_STACK_TRANSLATE (588 * 1024) /* 576 KiB */
+#define CIRCUIT_STACK_WALK (660 * 1024)      /* 647 KiB */
+#define CIRCUIT_STACK_RUN (32 * 1024)        /* 20 KiB */
 #define CIRCUIT_STACK_CHECK (24 * 1024)      /* 11 KiB */
 #define CIRCUIT_STACK_JOIN (32 * 1024)       /* 17 KiB */
 #define CIRCUIT_STACK_READ (16 * 1024)       /* below 1 KiB */

@@ -59,9 +59,9 @@ pub const RECORDING_NUMBERS: usize = TICKS * PROBES;
 
 /// Bytes of stack for a thread that does nothing but call [`translate`], on x86-64. `bindings/c/circuit.h` says what
 /// these numbers are made of; a caller's own frames come on top.
-pub const STACK_TRANSLATE: usize = 504 * 1024;
+pub const STACK_TRANSLATE: usize = 588 * 1024;
 /// The same for [`walk`], and for [`walk_probed`].
-pub const STACK_WALK: usize = 692 * 1024;
+pub const STACK_WALK: usize = 660 * 1024;
 /// The same for [`run`].
 pub const STACK_RUN: usize = 32 * 1024;
 /// The same for [`check`].
