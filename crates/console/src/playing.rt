@@ -1,4 +1,5 @@
-// A circuit played on the samples behind it: the column file, an empty line, then a line a tick.
+// A circuit played on the samples behind it: the column file, an empty line, then a line a tick. The only error is that of
+// a read or a write that failed, and it is answered at once: of what was lent to be changed only its length is known then.
 ghost use Rattle.std.specs.Prelude.{◌≡◌, ◌*◌, ◌<◌, ◌≤◌, length, IfOk, OnOk};
 ghost use Rattle.std.specs.Io.KnownBytes.{Keeps};
 ghost use Rattle.flat.specs.Code.{input_count};

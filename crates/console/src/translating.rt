@@ -8,7 +8,8 @@ use listing::PRINT_BYTES;
 use std::io;
 use std::io::{Read, Write};
 
-// Reads a column file and prints its code, or number and place of the refusal.
+// Reads a column file and prints its code, or number and place of the refusal. The only error is that of a read or a write
+// that failed; of what was written by then nothing is known.
 pub fn translate<R: Read, W: Write>(from: &mut R, out: &mut W) -> io::Result<()>
     ensures { OnOk result (IfSome (R.remaining from.old) (λ file.
         Appends (W.contents out.old) (W.contents out.new) (file_text file))) }

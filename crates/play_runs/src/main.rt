@@ -4,17 +4,22 @@
 use std::rt::Files;
 use std::{fs, io};
 
+// A file that cannot be opened is played as one with nothing in it.
 fn play_file<R: Files + Print>(rt: &R, name: &str) -> io::Result<()> {
     println!(rt; "{name}")?;
-    let mut from = fs::open(rt, name)?;
-    console::play(&mut from, &mut io::writer(rt))
+    match fs::open(rt, name) {
+        Ok(mut from) => console::play(&mut from, &mut io::writer(rt)),
+        Err(_) => console::play(&mut io::empty(), &mut io::writer(rt)),
+    }
 }
 
 fn play_again<R: Files + Print>(rt: &R, name: &str) -> io::Result<()> {
     println!(rt; "{name} held")?;
-    let mut from = fs::open(rt, name)?;
     let mut input = [0u8; 65536];
-    let count = console::read_full(&mut from, &mut input)?;
+    let count = match fs::open(rt, name) {
+        Ok(mut from) => console::read_full(&mut from, &mut input)?,
+        Err(_) => 0,
+    };
     console::play_held(&mut io::writer(rt), &input[..count])
 }
 

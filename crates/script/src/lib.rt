@@ -1,4 +1,5 @@
-// Scripts over the entries of the engine: docs/SCRIPT.md has their form.
+// Scripts over the entries of the engine: docs/SCRIPT.md has their form. A read or a write that failed ends a script with its
+// error, the only one.
 #![tactic(auto)]
 
 mod calls;
