@@ -2,7 +2,7 @@
 // error, the only one.
 #![tactic(auto)]
 
-mod calls;
+mod entries;
 mod lines;
 mod probed;
 mod show;

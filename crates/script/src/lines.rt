@@ -1,6 +1,6 @@
 // The lines of a script that make a call: their numbers say how much of the buffers is lent.
 use crate::text::{put_run, read_list};
-use crate::{SECOND, Sizes, UNTOUCHED, calls, show};
+use crate::{SECOND, Sizes, UNTOUCHED, entries, show};
 use std::io;
 use std::io::Write;
 use word::index;
@@ -16,14 +16,14 @@ pub fn check_line<W: Write>(out: &mut W, table: &[u32], size: usize) -> io::Resu
     if table.len() < size {
         return Ok(());
     }
-    calls::check_table(out, &table[0..size])
+    entries::check_table(out, &table[0..size])
 }
 
 pub fn print_line<W: Write>(out: &mut W, file: &[u8], size: usize) -> io::Result<()> {
     if file.len() < size {
         return Ok(());
     }
-    calls::print_file(out, &file[0..size])
+    entries::print_file(out, &file[0..size])
 }
 
 pub fn samples_line<W: Write>(out: &mut W, file: &[u8], size: usize) -> io::Result<()> {
@@ -67,7 +67,7 @@ pub fn read_line<W: Write>(
     if buffer.len() < count {
         return Ok(sizes.table);
     }
-    let read = calls::read_file(out, &file[0..size], &mut buffer[0..count])?;
+    let read = entries::read_file(out, &file[0..size], &mut buffer[0..count])?;
     if read == 0 {
         return Ok(sizes.table);
     }
@@ -102,7 +102,7 @@ pub fn join_line<W: Write>(
     if buffer.len() < count {
         return Ok(first);
     }
-    let written = calls::join_tables(
+    let written = entries::join_tables(
         out,
         numbers[0],
         &tables[0..first],
@@ -132,7 +132,7 @@ fn write_part<W: Write>(
     if buffer.len() < count {
         return Ok(sizes.file);
     }
-    let written = calls::write_table(out, &table[0..size], &mut buffer[0..count])?;
+    let written = entries::write_table(out, &table[0..size], &mut buffer[0..count])?;
     if written == 0 {
         return Ok(sizes.file);
     }
@@ -180,7 +180,7 @@ pub fn translate_line<W: Write>(
     if buffer.len() < count {
         return Ok(sizes.code);
     }
-    let written = calls::translate_table(out, &table[0..size], &mut buffer[0..count])?;
+    let written = entries::translate_table(out, &table[0..size], &mut buffer[0..count])?;
     if written == 0 {
         return Ok(sizes.code);
     }
@@ -193,7 +193,7 @@ fn load_one<W: Write>(out: &mut W, named: u32, lent: usize, cells: &mut [u32]) -
     if cells.len() < lent {
         return Ok(());
     }
-    calls::load_cells(out, named, &mut cells[0..lent])
+    entries::load_cells(out, named, &mut cells[0..lent])
 }
 
 pub fn load_line<W: Write>(
@@ -231,7 +231,7 @@ fn block_part<W: Write>(
         return Ok(());
     }
     if walks {
-        return calls::walk_block(
+        return entries::walk_block(
             out,
             program,
             ticks,
@@ -241,7 +241,7 @@ fn block_part<W: Write>(
             &mut buffer[0..count],
         );
     }
-    calls::run_block(
+    entries::run_block(
         out,
         program,
         ticks,

@@ -1,6 +1,6 @@
 // The line of a walk with probes: its numbers say how much of the buffers is lent.
 use crate::text::{is, put_run, read_list};
-use crate::{Sizes, UNTOUCHED, calls};
+use crate::{Sizes, UNTOUCHED, entries};
 use std::io;
 use std::io::Write;
 use word::index;
@@ -47,7 +47,7 @@ fn probed_part<W: Write>(
     if recording.len() < r {
         return Ok(());
     }
-    calls::probed_block(
+    entries::probed_block(
         out,
         table,
         probes,
