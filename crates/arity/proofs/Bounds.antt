@@ -26,7 +26,7 @@ use Rattle.arity.proofs.Right.{rights, kids}
 use Rattle.arity.proofs.Once.{lower, nodewise, below, distinct}
 
 -- sums
-sum_bound : (f : ℕ → ℕ) (b n : ℕ) → ((j : ℕ) → j < n → f j ≤ b) → sum_to f n ≤ n * b
+pub sum_bound : (f : ℕ → ℕ) (b n : ℕ) → ((j : ℕ) → j < n → f j ≤ b) → sum_to f n ≤ n * b
 unfolding sum_to
 sum_bound f b zero h = omega arith
 sum_bound f b (suc n) h = let l = sum_bound f b n (λ j k. h j (omega arith)) in omega (arith, h n (omega arith))
@@ -107,16 +107,19 @@ join-need i k l r k9 a b = omega arith
 join-need i k l r k10 a b = omega arith
 join-need i k l r k11 a b = omega arith
 
-leaf-size : (i k a : ℕ) → Alone k → first_in_range k a ≡ true → size (leaf i (primitive_of k a)) ≤ 4096
+pub leaf-size : (i k a : ℕ) → Alone k → (k ≡ 4 → a ≤ 4095) → size (leaf i (primitive_of k a)) ≤ 4096
 unfolding size
 leaf-size i k a k1 e = omega arith
 leaf-size i k a k2 e = omega arith
 leaf-size i k a k3 e = omega arith
-leaf-size i k a k4 e = omega (arith, leb-true a 4095 e)
+leaf-size i k a k4 e = omega (arith, e refl)
 leaf-size i k a k5 e = omega arith
 leaf-size i k a k6 e = omega arith
 
-join-size : (i k : ℕ) (l r : Tree) → Two k → ins r ≤ 32 → size (join i (composition_of k) l r) ≤ 4096
+short_delay : (k a : ℕ) → first_in_range k a ≡ true → k ≡ 4 → a ≤ 4095
+short_delay k a e f = leb-true a 4095 (rw f at e)
+
+pub join-size : (i k : ℕ) (l r : Tree) → Two k → ins r ≤ 32 → size (join i (composition_of k) l r) ≤ 4096
 unfolding size
 join-size i k l r k7 b = omega arith
 join-size i k l r k8 b = omega arith
@@ -131,7 +134,7 @@ module _ (t : List ℕ) (n : ℕ) (passes : (j : ℕ) → j < n → refusal_at t
   size-most j h = go (view t n (kids t n passes) j h)
     where
       go : View t j → size (tree t j) ≤ 4096
-      go (alone a e) = rw e (leaf-size j (kind_at t j) (first_at t j) (alone_of _ (rights t n passes j h).least a) (rights t n passes j h).first)
+      go (alone a e) = rw e (leaf-size j (kind_at t j) (first_at t j) (alone_of _ (rights t n passes j h).least a) (short_delay _ _ (rights t n passes j h).first))
       go (two a b e) =
           let v = lower t n (kids t n passes) j (second_at t j) h (inr (a, b, refl)) in
           rw e (join-size j (kind_at t j) (tree t (first_at t j)) (tree t (second_at t j)) (two_of _ a b) (rights t n passes (second_at t j) (omega arith)).inputs)

@@ -2,29 +2,27 @@
 use Prim.Native.Nat.{ℕ, suc, ◌-◌, ◌%◌, ◌≤◌, ◌<◌}
 use mathlib.Core.Path.{◌≡◌, refl, sym, ap, ◌∙◌}
 use mathlib.Core.Logic.{◌⊎◌}
-use mathlib.Core.Bool.{Bool, false, ◌&&◌}
+use mathlib.Core.Bool.{Bool, false, not}
 use mathlib.Core.List.{List}
 use native.Mathlib.Omega.{arith}
-use lib.ListN.{length, get_or, replicate, length-replicate, get_or-replicate}
-use lib.Dec.{eqb, ltb}
+use native.Mathlib.Decide.{dec_lt}
+use lib.ListN.{length, get_or, take, replicate, length-replicate, get_or-replicate}
 use borrow.Author.Tests.{lt-ltb, le-ltb}
-use Rattle.word.specs.Choice.{bit}
+use Rattle.std.proofs.lemmas.List.{get_or-take, length-take-le}
+use Rattle.std.proofs.lemmas.List.Quantifiers.{position-Some}
+use Rattle.std.specs.Prelude.{Result, Ok, Err, Some, position}
 use Rattle.refusal.specs.Answer.{refusal_of}
 use Rattle.refusal.specs.declared.Refusal.{Refusal}
 use Rattle.refusal.specs.declared.Refusal.TheVariants.{WrongNodeCount, LooseNode}
 use Rattle.arity.specs.Table.{nodes}
 use Rattle.arity.specs.Nodes.{sum_to}
-use Rattle.arity.specs.Lowest.{lowest}
 use Rattle.arity.specs.Check.{taken, refusal_at, first_cell, loose, first_loose, checked, answer_of}
 use Rattle.arity.specs.Survey.{row_of, row_at, put_row, filled, surveyed}
-use Rattle.arity.specs.Steps.{State, Refuses, Steps, loose_in}
-use Rattle.arity.specs.declared.CheckAnswer.{CheckAnswer}
-use Rattle.arity.specs.declared.CheckAnswer.TheVariants.{Accepted, Refused}
+use Rattle.arity.specs.Steps.{State, Refuses}
+use Rattle.arity.specs.declared.counts.Counts.{Counts}
 use Rattle.arity.specs.declared.rows.Row.{Row}
-use Rattle.arity.specs.declared.node.Stepped.{Stepped}
-use Rattle.arity.specs.declared.node.Stepped.TheVariants.{Next, Stop}
-use Rattle.arity.proofs.Tests.{bit-zero}
-use Rattle.arity.proofs.Lowest.{lowest-alike}
+use Rattle.arity.proofs.Lowest.{lowest-is, position-none}
+use Rattle.arity.proofs.Loose.{none-loose}
 use Rattle.arity.proofs.Walk.{passed_to, even, not_even, unevenly, too_many, stops, passes}
 
 -- before the first node
@@ -36,15 +34,15 @@ pub no_cells : (t : List ℕ) → 0 ≡ first_cell t 0
 unfolding sum_to
 no_cells t = refl
 
-pub start_state : (t s m : List ℕ) → nodes t ≤ 512 → length s ≡ 2048 → m ≡ replicate 512 0 → State t s m 0
+pub start_state : (t s : List ℕ) (m : List Bool) → nodes t ≤ 512 → length s ≡ 2048 → m ≡ replicate 512 false → State t s m 0
 start_state t s m a b e =
     record {
       most = a;
       room = b;
-      long = ap length e ∙ length-replicate {A = ℕ} 512 0;
+      long = ap length e ∙ length-replicate {A = Bool} 512 false;
       right = λ j h. absurd (omega arith);
       rows = λ j h. absurd (omega arith);
-      marked = λ c h. ap (λ (l : List ℕ). get_or l c 0) e ∙ get_or-replicate {A = ℕ} 512 c 0 0 h ∙ sym (ap bit (none-taken t c));
+      marked = λ c h. ap (λ (l : List Bool). get_or l c false) e ∙ get_or-replicate {A = Bool} 512 c false false h ∙ sym (none-taken t c);
     }
 
 -- the rows that were written
@@ -64,17 +62,17 @@ surveyed-all t s some thirds most f =
     rw (even t some thirds, le-ltb 512 (nodes t) most, passed_to t (nodes t) (omega arith) f (λ l. absurd (omega arith)))
 
 -- the answer r to the table t, with the rows s' left of s
-pub record Done (t s : List ℕ) (r : CheckAnswer) (s' : List ℕ) : Type 0 where
+pub record Done (t s : List ℕ) (r : Result Counts Refusal) (s' : List ℕ) : Type 0 where
   pub answer : answer_of r ≡ checked t
   pub rows : s' ≡ surveyed t s
 
 -- refusal 3
-pub ends_uneven : (t s : List ℕ) → (length t ≡ 0) ⊎ (length t % 3 ≡ 0 → ⊥) → Done t s (Refused (WrongNodeCount 0)) s
+pub ends_uneven : (t s : List ℕ) → (length t ≡ 0) ⊎ (length t % 3 ≡ 0 → ⊥) → Done t s (Err (WrongNodeCount 0)) s
 unfolding surveyed
 ends_uneven t s e = record { answer = sym (unevenly t (not_even t e)); rows = rw (not_even t e) (filled_none t s) }
 
 module _ {t : List ℕ} (some : length t ≡ 0 → ⊥) (thirds : length t % 3 ≡ 0) where
-  pub ends_long : (s : List ℕ) → 512 < nodes t → Done t s (Refused (WrongNodeCount 512)) s
+  pub ends_long : (s : List ℕ) → 512 < nodes t → Done t s (Err (WrongNodeCount 512)) s
   unfolding surveyed
   ends_long s h =
       record {
@@ -82,14 +80,14 @@ module _ {t : List ℕ} (some : length t ≡ 0 → ⊥) (thirds : length t % 3 �
         rows = rw (even t some thirds, lt-ltb 512 (nodes t) h) (filled_none t s);
       }
 
-  module _ (s₀ : List ℕ) {s m : List ℕ} {i : ℕ} (w : State t s m i) (f : s ≡ filled t i s₀) where
+  module _ (s₀ : List ℕ) {s : List ℕ} {m : List Bool} {i : ℕ} (w : State t s m i) (f : s ≡ filled t i s₀) where
     -- where i nodes passed
     rows_at : i ≤ nodes t → (i < nodes t → refusal_at t i ≡ 0 → ⊥) → s ≡ surveyed t s₀
     unfolding surveyed
     rows_at h g = rw (even t some thirds, le-ltb 512 (nodes t) w.most, passed_to t i h w.right g) f
 
     -- at a node that is refused
-    pub ends_refused : {r : Refusal} {s' : List ℕ} → i < nodes t → Refuses t i (refusal_of r) → s' ≡ s → Done t s₀ (Refused r) s'
+    pub ends_refused : {r : Refusal} {s' : List ℕ} → i < nodes t → Refuses t i (refusal_of r) → s' ≡ s → Done t s₀ (Err r) s'
     ends_refused h (e, g) q =
         record {
           answer = e ∙ sym (stops t (even t some thirds) w.most i h w.right g);
@@ -97,43 +95,50 @@ module _ {t : List ℕ} (some : length t ≡ 0 → ⊥) (thirds : length t % 3 �
         }
 
     -- after the last node
-    module _ (last : i ≡ nodes t) {p : ℕ} (l : p ≡ lowest (loose_in m (nodes t)) (nodes t) 0) where
+    module _ (last : i ≡ nodes t) where
       whole : State t s m (nodes t)
       whole = rw last at w
 
       rows_all : s ≡ surveyed t s₀
       rows_all = rows_at (omega arith) (λ h. absurd (omega arith))
 
-      -- the marks of all nodes tell which are loose
-      marked-loose : (q : ℕ) → q < nodes t → loose_in m (nodes t) q ≡ loose t q
-      unfolding loose_in
+      -- the marks of the nodes but the last
+      abbrev others : List Bool
+      others = take (nodes t - 1) m
+
+      long : length others ≡ nodes t - 1
+      long = length-take-le (nodes t - 1) m (omega (arith, whole.most, whole.long))
+
+      -- they tell which are loose
+      marked-loose : (q : ℕ) → q < length others → not (get_or others q false) ≡ loose t q
       marked-loose q h =
-          ap (λ (b : Bool). ltb (suc q) (nodes t) && b)
-          (ap (λ (x : ℕ). eqb x 0) (whole.marked q (omega (arith, whole.most))) ∙ bit-zero (taken t (nodes t) q))
+          rw (get_or-take (nodes t - 1) m q false (omega (arith, long)), whole.marked q (omega (arith, long, whole.most)), lt-ltb (suc q) (nodes t) (omega (arith, long)))
 
-      found : p ≡ first_loose t
-      found = l ∙ lowest-alike (loose_in m (nodes t)) (loose t) (nodes t) 0 (λ q a b. marked-loose q (omega arith))
+      found : {p : ℕ} → position not others ≡ Some p → (p < nodes t) × (first_loose t ≡ p)
+      found {p} e =
+          let (h, f, g) = position-Some not others p false e in
+          (omega (arith, long), lowest-is (loose t) (nodes t) 0 p (omega arith) (omega (arith, long)) (λ q a b. sym (marked-loose q (omega arith)) ∙ g q b) (λ l. sym (marked-loose p h) ∙ f))
 
-      pub ends_loose : p < nodes t → Done t s₀ (Refused (LooseNode p)) s
-      ends_loose h =
+      none : ((p : ℕ) → position not others ≡ Some p → ⊥) → first_loose t ≡ nodes t
+      none e = none-loose t (λ q. at q (dec_lt q (length others)))
+        where
+          at : (q : ℕ) → Dec (q < length others) → loose t q ≡ false
+          at q (yes h) = sym (marked-loose q h) ∙ position-none not others e q h
+          at q (no h) = rw (le-ltb (suc q) (nodes t) (omega (arith, long)))
+
+      pub ends_loose : {p : ℕ} → position not others ≡ Some p → Done t s₀ (Err (LooseNode p)) s
+      ends_loose {p} e =
+          let (h, f) = found e in
           record {
-            answer = rw found (sym (passes t (even t some thirds) whole.most whole.right ∙ rw (lt-ltb (first_loose t) (nodes t) (omega (arith, found)))));
+            answer = rw (← f) (sym (passes t (even t some thirds) whole.most whole.right ∙ rw (lt-ltb (first_loose t) (nodes t) (omega (arith, f)))));
             rows = rows_all;
           }
 
-      pub ends_accepted : nodes t ≤ p → {c : ℕ} → c ≡ first_cell t i → {r : Row} → r ≡ row_at s (nodes t - 1)
-          → Done t s₀ (Accepted r.inputs r.outputs r.instructions c) s
-      ends_accepted h {c} ec {r} er =
+      pub ends_accepted : ((p : ℕ) → position not others ≡ Some p → ⊥) → {c : ℕ} → c ≡ first_cell t i → {r : Row} → r ≡ row_at s (nodes t - 1)
+          → Done t s₀ (Ok (record { inputs = r.inputs; outputs = r.outputs; instructions = r.instructions; cells = c })) s
+      ends_accepted e {c} ec {r} er =
           let z : r ≡ row_of t (nodes t - 1) = er ∙ whole.rows (nodes t - 1) (omega arith) in
           record {
-            answer = rw (z, ec, last) (sym (passes t (even t some thirds) whole.most whole.right ∙ rw (le-ltb (first_loose t) (nodes t) (omega (arith, found)))));
+            answer = rw (z, ec, last) (sym (passes t (even t some thirds) whole.most whole.right ∙ rw (le-ltb (first_loose t) (nodes t) (omega (arith, none e)))));
             rows = rows_all;
           }
-
--- a step, by cases
-module _ (t : List ℕ) (i : ℕ) {x : Stepped} (s₀ s m : List ℕ) where
-  pub stepped-next : {n : ℕ} → x ≡ Next n → Steps t i x s₀ s m → State t s m (suc i) × (n ≡ first_cell t (suc i)) × (s ≡ put_row s₀ i (row_of t i))
-  stepped-next e h = rw e at h
-
-  pub stepped-stop : {r : Refusal} → x ≡ Stop r → Steps t i x s₀ s m → Refuses t i (refusal_of r) × (s ≡ s₀)
-  stepped-stop e h = rw e at h

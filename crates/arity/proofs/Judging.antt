@@ -5,22 +5,26 @@ use mathlib.Core.Bool.{Bool, true, false, not, ◌&&◌}
 use mathlib.Core.List.{List}
 use native.Mathlib.Omega.{arith}
 use native.Mathlib.Decide.{dec_le, dec_lt}
-use lib.Dec.{eqb, ltb}
+use lib.Dec.{eqb, leb, ltb}
 use borrow.Author.Tests.{eqb-true, leb-true, le-leb, lt-leb, le-ltb}
-use Rattle.word.specs.Choice.{pick, bit}
+use Rattle.word.specs.Choice.{pick}
 use Rattle.word.specs.Operation.{operands}
 use Rattle.word.proofs.OperandCounts.{operands-most}
 use Rattle.refusal.specs.Answer.{refused_at}
 use Rattle.arity.specs.Tree.{Tree, Primitive, ins, outs}
 use Rattle.arity.specs.Tree.Tree.{leaf}
 use Rattle.arity.specs.Tree.Primitive.{number, control, operation, delay, cable, cut}
-use Rattle.arity.specs.Table.{kind_at, first_at, second_at, nodes, tree, primitive_of}
-use Rattle.arity.specs.Check.{known_kind, first_in_range, second_in_range, taken, free, children_free, rule_fits, feeds_back, narrow, refusal_at, first_cell}
+use Rattle.arity.specs.Table.{kind_at, first_at, second_at, tree, primitive_of}
+use Rattle.arity.specs.Check.{known_kind, first_in_range, second_in_range, free, children_free, rule_fits, feeds_back, narrow, refusal_at, first_cell}
 use Rattle.arity.specs.Formed.{Children}
 use Rattle.arity.specs.Survey.{row_of, row_at}
 use Rattle.arity.specs.Steps.{counts_of, rule_of, feedback_of, over, Joins, Modest, Joinable, State, free_in, children_in, Branching, Refuses}
+use Rattle.arity.specs.Kinds.{number_of}
+use Rattle.arity.specs.declared.kinds.Kind.{Kind}
+use Rattle.arity.specs.declared.kinds.Kind.TheVariants.{Number, Control, Operation, Delay, Cable, Cut, Sequence, Parallel, Split, Merge, Recursion, Ondemand}
 use Rattle.arity.specs.declared.counts.Counts.{Counts}
 use Rattle.arity.specs.declared.rows.Row.{Row}
+use Rattle.arity.proofs.Tests.{and_right}
 use Rattle.arity.proofs.ByKind.{rule-other}
 use Rattle.arity.proofs.Feedback.{feedback-other}
 use Rattle.arity.proofs.Taken.{children_of}
@@ -45,16 +49,11 @@ refusal t i a b c d f e p q r s v u = rw (p, q, r, s, v, u)
 refuses : (t : List ℕ) (i r : ℕ) → refusal_at t i ≡ r → (r ≡ 0 → ⊥) → Refuses t i (refused_at r i)
 refuses t i r e n = (ap (λ (x : ℕ). refused_at x i) (sym e), λ z. n (sym e ∙ z))
 
--- a mark of 0 is a node that none before has
-unmarked : (b : Bool) → eqb (bit b) 0 ≡ not b
-unmarked true = refl
-unmarked false = refl
-
-free_law : (t s m : List ℕ) (i c : ℕ) → State t s m i → i ≤ 512 → free_in m i c ≡ free t i c
+free_law : (t s : List ℕ) (m : List Bool) (i c : ℕ) → State t s m i → i ≤ 512 → free_in m i c ≡ free t i c
 free_law t s m i c w h = go (dec_lt c i)
   where
     go : Dec (c < i) → free_in m i c ≡ free t i c
-    go (yes l) = ap (λ (b : Bool). ltb c i && b) (ap (λ (x : ℕ). eqb x 0) (w.marked c (omega arith)) ∙ unmarked (taken t i c))
+    go (yes l) = ap (λ (b : Bool). ltb c i && b) (ap not (w.marked c (omega arith)))
     go (no l) = rw (le-ltb c i (omega arith))
 
 turn : (x y z : Bool) → (z && (x && y)) ≡ (x && (y && z))
@@ -67,7 +66,7 @@ turn false true false = refl
 turn false false true = refl
 turn false false false = refl
 
-children_law : (t s m : List ℕ) (i : ℕ) → State t s m i → i ≤ 512 → 7 ≤ kind_at t i → children_in (kind_at t i) m i (first_at t i) (second_at t i) ≡ children_free t i
+children_law : (t s : List ℕ) (m : List Bool) (i : ℕ) → State t s m i → i ≤ 512 → 7 ≤ kind_at t i → children_in (kind_at t i) m i (first_at t i) (second_at t i) ≡ children_free t i
 unfolding children_free
 children_law t s m i w h k = go (dec_le (kind_at t i) 11)
   where
@@ -100,7 +99,7 @@ pub record Read (t : List ℕ) (i k a b : ℕ) : Type 0 where
   pub second : b ≡ second_at t i
 
 -- a node with children
-module _ (t s m : List ℕ) (i : ℕ) (w : State t s m i) (u : Branching t i) where
+module _ (t s : List ℕ) (m : List Bool) (i : ℕ) (w : State t s m i) (u : Branching t i) where
   known : known_kind (kind_at t i) ≡ true
   known = rw (le-leb 1 (kind_at t i) (omega (arith, u.least)), le-leb (kind_at t i) 12 u.most)
 
@@ -133,9 +132,6 @@ module _ (t s m : List ℕ) (i : ℕ) (w : State t s m i) (u : Branching t i) wh
         go (no h) =
             let f : eqb (second_at t i) 0 ≡ true = rw (le-leb 7 (kind_at t i) u.least, lt-leb (kind_at t i) 11 (omega arith)) at u.second in
             omega (arith, eqb-true (second_at t i) 0 f, first-lower)
-
-    lower_both : (first_at t i < 512) × (second_at t i < 512)
-    lower_both = (omega (arith, first-lower, inside), omega (arith, second-lower, inside))
 
     left : row_at s (first_at t i) ≡ row_of t (first_at t i)
     left = w.rows (first_at t i) first-lower
@@ -192,7 +188,7 @@ module _ (t s m : List ℕ) (i : ℕ) (w : State t s m i) (u : Branching t i) wh
       accepted f g h = refusal t i true true true true true true known fields all-free (sym rule_law ∙ f) (sym feedback_law ∙ g) h
 
 -- the same, as the code has read the node: x says whether its children are free, y whether its rule fits, o whether it feeds back
-module _ {t s m : List ℕ} {i k a b : ℕ} (w : State t s m i) (u : Branching t i) (v : Read t i k a b) {x : Bool} (ex : x ≡ children_in k m i a b) where
+module _ {t s : List ℕ} {m : List Bool} {i k a b : ℕ} (w : State t s m i) (u : Branching t i) (v : Read t i k a b) {x : Bool} (ex : x ≡ children_in k m i a b) where
   free-at : (z : Bool) → x ≡ z → children_in (kind_at t i) m i (first_at t i) (second_at t i) ≡ z
   free-at z e = rw (v.kind, v.first, v.second) at (sym ex ∙ e)
 
@@ -202,9 +198,6 @@ module _ {t s m : List ℕ} {i k a b : ℕ} (w : State t s m i) (u : Branching t
   module _ (e : x ≡ true) where
     all : children_in (kind_at t i) m i (first_at t i) (second_at t i) ≡ true
     all = free-at true e
-
-    pub seen_lower : (a < 512) × (b < 512)
-    seen_lower = rw (v.first, v.second) (lower_both t s m i w u all)
 
     module _ {l r : Row} (el : l ≡ row_at s a) (er : r ≡ row_at s b) {y : Bool} (ey : y ≡ rule_of k l r) where
       row_l : l ≡ row_of t (first_at t i)
@@ -273,21 +266,33 @@ leaf-narrow i (delay d) = refl
 leaf-narrow i cable = refl
 leaf-narrow i cut = refl
 
--- refusals 4 and 5, and a node that passes without children
+pub named : (k : Kind) → known_kind (number_of k) ≡ true
+named Number = refl
+named Control = refl
+named Operation = refl
+named Delay = refl
+named Cable = refl
+named Cut = refl
+named Sequence = refl
+named Parallel = refl
+named Split = refl
+named Merge = refl
+named Recursion = refl
+named Ondemand = refl
+
+-- refusal 4
+pub unknown : (t : List ℕ) (i : ℕ) {k : ℕ} → k ≡ kind_at t i → known_kind k ≡ false → Refuses t i (refused_at 4 i)
+unknown t i k e = refuses t i 4 (refusal t i false _ _ _ _ _ (rw k at e) refl refl refl refl refl) (λ z. omega arith)
+
+-- refusal 5, and a node that passes without children
 module _ {t : List ℕ} {i k a b : ℕ} (v : Read t i k a b) where
-  unknown : known_kind (kind_at t i) ≡ false → Refuses t i (refused_at 4 i)
-  unknown e = refuses t i 4 (refusal t i false _ _ _ _ _ e refl refl refl refl refl) (λ z. omega arith)
-
-  pub kind-low : k < 1 → Refuses t i (refused_at 4 i)
-  kind-low h = unknown (rw (lt-leb 1 (kind_at t i) (omega (arith, v.kind))))
-
-  pub kind_high : 12 < k → Refuses t i (refused_at 4 i)
-  kind_high h = unknown (rw (le-leb 1 (kind_at t i) (omega (arith, v.kind)), lt-leb (kind_at t i) 12 (omega (arith, v.kind))))
-
   -- x says whether the first field is in range, y the second
-  module _ (least : 1 ≤ k) (most : k ≤ 12) {x : Bool} (ex : x ≡ first_in_range k a) where
+  module _ (known : known_kind k ≡ true) {x : Bool} (ex : x ≡ first_in_range k a) where
     kind-known : known_kind (kind_at t i) ≡ true
-    kind-known = rw (le-leb 1 (kind_at t i) (omega (arith, v.kind)), le-leb (kind_at t i) 12 (omega (arith, v.kind)))
+    kind-known = rw v.kind at known
+
+    most : k ≤ 12
+    most = leb-true k 12 (and_right (leb 1 k) (leb k 12) known)
 
     first-at : (z : Bool) → x ≡ z → first_in_range (kind_at t i) (first_at t i) ≡ z
     first-at z e = rw (v.kind, v.first) at (sym ex ∙ e)
@@ -302,9 +307,6 @@ module _ {t : List ℕ} {i k a b : ℕ} (v : Read t i k a b) where
       first-right : first_in_range (kind_at t i) (first_at t i) ≡ true
       first-right = first-at true e
 
-      pub delay-short : k ≡ 4 → a ≤ 4095
-      delay-short q = leb-true a 4095 (rw q at (sym ex ∙ e))
-
       module _ {y : Bool} (ey : y ≡ second_in_range k b) where
         second-at : (z : Bool) → y ≡ z → second_in_range (kind_at t i) (second_at t i) ≡ z
         second-at z f = rw (v.kind, v.second) at (sym ey ∙ f)
@@ -315,9 +317,6 @@ module _ {t : List ℕ} {i k a b : ℕ} (v : Read t i k a b) where
         module _ (f : y ≡ true) where
           second-right : second_in_range (kind_at t i) (second_at t i) ≡ true
           second-right = second-at true f
-
-          pub branching : i < nodes t → 6 < k → Branching t i
-          branching h l = record { inside = h; least = omega (arith, v.kind); most = omega (arith, v.kind); first = first-right; second = second-right }
 
           pub leaf-right : ((j : ℕ) → j < i → refusal_at t j ≡ 0) → k ≤ 6 → {n : Counts} → n ≡ counts_of (leaf 0 (primitive_of k a))
               → (refusal_at t i ≡ 0) × (n ≡ counts_of (tree t i))

@@ -12,6 +12,7 @@ mod Once
 mod Fitting
 mod Parts
 mod Bounds
+pub mod Modest
 mod Lowest
 pub mod Loose
 mod Walk

@@ -2,8 +2,14 @@
 use Prim.Native.Nat.{ℕ, zero, suc, ◌+◌, ◌≤◌, ◌<◌}
 use mathlib.Core.Path.{◌≡◌, refl}
 use mathlib.Core.Bool.{Bool, true, false}
+use mathlib.Core.List.{List}
 use native.Mathlib.Omega.{arith}
-use native.Mathlib.Decide.{ℕ_discrete}
+use native.Mathlib.Decide.{dec_lt, ℕ_discrete}
+use lib.ListN.{length, get_or}
+use borrow.Author.Tests.{lt-ltb}
+use Rattle.std.specs.Prelude.{Some, position}
+use Rattle.std.specs.List.{position_or_len}
+use Rattle.std.proofs.lemmas.List.Sums.{fails_before_first}
 use Rattle.word.specs.Choice.{pick}
 use Rattle.arity.specs.Lowest.{lowest}
 
@@ -42,8 +48,10 @@ module _ (test : ℕ → Bool) where
       go (yes e) ih = rw (e, g (omega arith))
       go (no e) ih = rw (f i (omega arith) (omega arith)) (ih (omega arith) (omega arith) (λ q x y. f q (omega arith) y) (λ h. g (omega arith)))
 
--- tests that agree have the same
-pub lowest-alike : (f g : ℕ → Bool) (n i : ℕ) → ((q : ℕ) → i ≤ q → q < i + n → f q ≡ g q) → lowest f n i ≡ lowest g n i
-unfolding lowest
-lowest-alike f g zero i h = refl
-lowest-alike f g (suc n) i h = rw (h i (omega arith) (omega arith), lowest-alike f g n (suc i) (λ q a b. h q (omega arith) (omega arith)))
+-- where no element passes
+pub position-none : (test : Bool → Bool) (xs : List Bool) → ((p : ℕ) → position test xs ≡ Some p → ⊥) → (k : ℕ) → k < length xs → test (get_or xs k false) ≡ false
+position-none test xs e k h = go (dec_lt (position_or_len test xs) (length xs))
+  where
+    go : Dec (position_or_len test xs < length xs) → test (get_or xs k false) ≡ false
+    go (yes l) = absurd (e (position_or_len test xs) (rw (lt-ltb (position_or_len test xs) (length xs) l)))
+    go (no l) = fails_before_first test xs k false (omega arith)

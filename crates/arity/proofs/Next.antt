@@ -9,19 +9,15 @@ use lib.ListN.{length, get_or, set, length-set}
 use lib.Seq.{get_or-set_same, get_or-set_other}
 use lib.Dec.{eqb, leb}
 use borrow.Author.Tests.{le-leb, lt-leb, eq-eqb, ne_eqb}
-use Rattle.word.specs.Choice.{pick, bit}
-use Rattle.refusal.specs.Answer.{refusal_of}
-use Rattle.refusal.specs.declared.Refusal.{Refusal}
+use Rattle.word.specs.Choice.{pick}
 use Rattle.arity.specs.Tree.{size}
 use Rattle.arity.specs.Table.{kind_at, first_at, second_at, nodes, tree}
 use Rattle.arity.specs.Nodes.{sum_to}
 use Rattle.arity.specs.Check.{taken, refusal_at, first_cell}
 use Rattle.arity.specs.Survey.{row_of, row_at, put_row}
-use Rattle.arity.specs.Steps.{counts_of, State, marking, Refuses, Judges}
+use Rattle.arity.specs.Steps.{counts_of, State, marking}
 use Rattle.arity.specs.declared.counts.Counts.{Counts}
 use Rattle.arity.specs.declared.rows.Row.{Row}
-use Rattle.arity.specs.declared.node.Judged.{Judged}
-use Rattle.arity.specs.declared.node.Judged.TheVariants.{Right, Wrong}
 use Rattle.arity.proofs.Right.{right}
 use Rattle.arity.proofs.Bounds.{cells-most}
 
@@ -92,46 +88,46 @@ one_more P i f p j h = go (ℕ_discrete j i)
     go (no e) = f j (omega arith)
 
 -- the marks of one more node
-marking-length : (k a b : ℕ) (m : List ℕ) → length (marking k a b m) ≡ length m
+marking-length : (k a b : ℕ) (m : List Bool) → length (marking k a b m) ≡ length m
 marking-length k a b m = go (leb k 6) (leb k 11)
   where
-    go : (x y : Bool) → length (pick x m (pick y (set (set m a 1) b 1) (set m a 1))) ≡ length m
+    go : (x y : Bool) → length (pick x m (pick y (set (set m a true) b true) (set m a true))) ≡ length m
     go true y = refl
     go false true = simp length-set
     go false false = simp length-set
 
-set-one : (m : List ℕ) (a c : ℕ) → a ≡ c → a < length m → get_or (set m a 1) c 0 ≡ 1
-set-one m a c e h = rw (← e) (get_or-set_same m a 1 0 h)
+set-one : (m : List Bool) (a c : ℕ) → a ≡ c → a < length m → get_or (set m a true) c false ≡ true
+set-one m a c e h = rw (← e) (get_or-set_same m a true false h)
 
-marking-at : (k a b c : ℕ) (m : List ℕ) (x : Bool) → (7 ≤ k → a < length m) → (7 ≤ k → k ≤ 11 → b < length m) → get_or m c 0 ≡ bit x
-    → get_or (marking k a b m) c 0 ≡ bit (((leb 7 k && eqb a c) || ((leb 7 k && leb k 11) && eqb b c)) || x)
+marking-at : (k a b c : ℕ) (m : List Bool) (x : Bool) → (7 ≤ k → a < length m) → (7 ≤ k → k ≤ 11 → b < length m) → get_or m c false ≡ x
+    → get_or (marking k a b m) c false ≡ (((leb 7 k && eqb a c) || ((leb 7 k && leb k 11) && eqb b c)) || x)
 marking-at k a b c m x p q e = go (dec_le k 6) (dec_le k 11) (ℕ_discrete a c) (ℕ_discrete b c)
   where
     go : Dec (k ≤ 6) → Dec (k ≤ 11) → Dec (a ≡ c) → Dec (b ≡ c)
-        → get_or (marking k a b m) c 0 ≡ bit (((leb 7 k && eqb a c) || ((leb 7 k && leb k 11) && eqb b c)) || x)
+        → get_or (marking k a b m) c false ≡ (((leb 7 k && eqb a c) || ((leb 7 k && leb k 11) && eqb b c)) || x)
     go (yes h) y u v = rw (le-leb k 6 h, lt-leb 7 k (omega arith)) e
     go (no h) (yes g) (yes u) (yes v) =
         let l : 7 ≤ k = omega arith in
-        rw (lt-leb k 6 l, le-leb k 11 g, le-leb 7 k l, eq-eqb a c u) (set-one (set m a 1) b c v (simp length-set (q l g)))
+        rw (lt-leb k 6 l, le-leb k 11 g, le-leb 7 k l, eq-eqb a c u) (set-one (set m a true) b c v (simp length-set (q l g)))
     go (no h) (yes g) (yes u) (no v) =
         let l : 7 ≤ k = omega arith in
-        rw (lt-leb k 6 l, le-leb k 11 g, le-leb 7 k l, eq-eqb a c u) (get_or-set_other (set m a 1) b c 1 0 (λ w. v (sym w)) ∙ set-one m a c u (p l))
+        rw (lt-leb k 6 l, le-leb k 11 g, le-leb 7 k l, eq-eqb a c u) (get_or-set_other (set m a true) b c true false (λ w. v (sym w)) ∙ set-one m a c u (p l))
     go (no h) (yes g) (no u) (yes v) =
         let l : 7 ≤ k = omega arith in
-        rw (lt-leb k 6 l, le-leb k 11 g, le-leb 7 k l, ne_eqb a c u, eq-eqb b c v) (set-one (set m a 1) b c v (simp length-set (q l g)))
+        rw (lt-leb k 6 l, le-leb k 11 g, le-leb 7 k l, ne_eqb a c u, eq-eqb b c v) (set-one (set m a true) b c v (simp length-set (q l g)))
     go (no h) (yes g) (no u) (no v) =
         let l : 7 ≤ k = omega arith in
         rw (lt-leb k 6 l, le-leb k 11 g, le-leb 7 k l, ne_eqb a c u, ne_eqb b c v)
-        (get_or-set_other (set m a 1) b c 1 0 (λ w. v (sym w)) ∙ get_or-set_other m a c 1 0 (λ w. u (sym w)) ∙ e)
+        (get_or-set_other (set m a true) b c true false (λ w. v (sym w)) ∙ get_or-set_other m a c true false (λ w. u (sym w)) ∙ e)
     go (no h) (no g) (yes u) v =
         let l : 7 ≤ k = omega arith in
         rw (lt-leb k 6 l, lt-leb k 11 (omega arith), le-leb 7 k l, eq-eqb a c u) (set-one m a c u (p l))
     go (no h) (no g) (no u) v =
         let l : 7 ≤ k = omega arith in
-        rw (lt-leb k 6 l, lt-leb k 11 (omega arith), le-leb 7 k l, ne_eqb a c u) (get_or-set_other m a c 1 0 (λ w. u (sym w)) ∙ e)
+        rw (lt-leb k 6 l, lt-leb k 11 (omega arith), le-leb 7 k l, ne_eqb a c u) (get_or-set_other m a c true false (λ w. u (sym w)) ∙ e)
 
 -- a node that is not refused
-module _ {t s m : List ℕ} {i : ℕ} (w : State t s m i) (h : i < nodes t) (e : refusal_at t i ≡ 0) where
+module _ {t s : List ℕ} {m : List Bool} {i : ℕ} (w : State t s m i) (h : i < nodes t) (e : refusal_at t i ≡ 0) where
   -- its children can be marked
   first-inside : 7 ≤ kind_at t i → first_at t i < 512
   first-inside l = omega (arith, ((right t i e).children.first l).lower, w.most)
@@ -170,17 +166,9 @@ module _ {t s m : List ℕ} {i : ℕ} (w : State t s m i) (h : i < nodes t) (e :
       second l k = omega (arith, second-inside l k, w.long)
 
   -- as the code does it: with the counts n, the first cell o, and the three fields as read
-  pub next : (o : ℕ) (n : Counts) (k a b : ℕ) (s' m' : List ℕ) → o ≡ first_cell t i → n ≡ counts_of (tree t i)
+  pub next : (o : ℕ) (n : Counts) (k a b : ℕ) (s' : List ℕ) (m' : List Bool) → o ≡ first_cell t i → n ≡ counts_of (tree t i)
       → k ≡ kind_at t i → a ≡ first_at t i → b ≡ second_at t i → s' ≡ put_row s i (row n.inputs n.outputs n.instructions o) → m' ≡ marking k a b m
       → State t s' m' (suc i) × (o + n.cells ≡ first_cell t (suc i)) × (s' ≡ put_row s i (row_of t i))
   next o n k a b s' m' eo en ek ea eb es em =
       let q : s' ≡ put_row s i (row_of t i) = es ∙ rw (en, eo) in
       (rw (q, em, ek, ea, eb) state_next, rw (eo, en) (sym cells-next), q)
-
--- what was judged, by cases
-module _ (t : List ℕ) (i : ℕ) {j : Judged} where
-  pub judged_right : {n : Counts} → j ≡ Right n → Judges t i j → (refusal_at t i ≡ 0) × (n ≡ counts_of (tree t i))
-  judged_right e h = rw e at h
-
-  pub judged_wrong : {r : Refusal} → j ≡ Wrong r → Judges t i j → Refuses t i (refusal_of r)
-  judged_wrong e h = rw e at h

@@ -3,8 +3,7 @@ use Prim.Native.Nat.{ℕ}
 use mathlib.Core.Path.{◌≡◌, refl}
 use mathlib.Core.Logic.{◌⊎◌, inl, inr}
 use mathlib.Core.Bool.{Bool, true, false, not, ◌&&◌, ◌||◌, false≢true}
-use lib.Dec.{eqb}
-use Rattle.word.specs.Choice.{pick, bit}
+use Rattle.word.specs.Choice.{pick}
 
 pub and_left : (a b : Bool) → (a && b) ≡ true → a ≡ true
 and_left true b e = refl
@@ -36,7 +35,3 @@ known-false false f = refl
 pub passed : (b : Bool) (r x n : ℕ) → pick (not b) r x ≡ n → (r ≡ n → ⊥) → (b ≡ true) × (x ≡ n)
 passed true r x n e f = (refl, e)
 passed false r x n e f = absurd (f e)
-
-pub bit-zero : (b : Bool) → eqb (bit b) 0 ≡ not b
-bit-zero true = refl
-bit-zero false = refl

@@ -1,16 +1,16 @@
 -- "The checks by place", for a table: which refusal it gets, at which node, and what the check reports where it gets none.
-use Rattle.std.specs.Prelude.{ℕ, zero, suc, ◌%◌, ◌≡◌, Bool, true, false, not, ◌&&◌, ◌||◌, List, [], ◌∷◌, length, eqb, leb, ltb}
+use Rattle.std.specs.Prelude.{ℕ, zero, suc, ◌%◌, ◌≡◌, Bool, true, false, not, ◌&&◌, ◌||◌, List, [], ◌∷◌, length, eqb, leb, ltb, Result, Ok, Err}
 use Rattle.word.specs.Choice.{pick}
 use Rattle.word.specs.Limits.{most_nodes, widest, last_slot, longest_delay}
 use Rattle.word.specs.Operation.{operands}
 use Rattle.refusal.specs.Answer.{Answer, refused_at, refusal_of}
 use Rattle.refusal.specs.Answer.Answer.{counts}
+use Rattle.refusal.specs.declared.Refusal.{Refusal}
 use Rattle.arity.specs.Tree.{Tree, ins, outs, size, need}
 use Rattle.arity.specs.Table.{kind_at, first_at, second_at, nodes, tree, circuit}
 use Rattle.arity.specs.Nodes.{sum_to}
 use Rattle.arity.specs.Lowest.{lowest}
-use Rattle.arity.specs.declared.CheckAnswer.{CheckAnswer}
-use Rattle.arity.specs.declared.CheckAnswer.TheVariants.{Accepted, Refused}
+use Rattle.arity.specs.declared.counts.Counts.{Counts}
 
 -- 4: "kind not 1 to 12"
 abbrev pub known_kind : ℕ → Bool
@@ -133,9 +133,9 @@ checked table =
     (report table))))
 
 -- the document's answer for each case
-abbrev pub answer_of : CheckAnswer → Answer
-answer_of (Accepted inputs outputs instructions cells) = counts (inputs ∷ outputs ∷ instructions ∷ cells ∷ [])
-answer_of (Refused r) = refusal_of r
+abbrev pub answer_of : Result Counts Refusal → Answer
+answer_of (Ok n) = counts (n.inputs ∷ n.outputs ∷ n.instructions ∷ n.cells ∷ [])
+answer_of (Err r) = refusal_of r
 
 -- the check answers with counts
 abbrev pub IsAccepted : List ℕ → Type 0

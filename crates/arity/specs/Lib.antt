@@ -12,3 +12,5 @@ pub mod Formed
 pub mod Acceptance
 pub mod Feedback
 pub mod Promise
+pub mod Kinds
+pub mod Ready

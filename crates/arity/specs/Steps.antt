@@ -1,8 +1,9 @@
 -- What the functions inside the check say of each other: a node's counts, and the survey from node to node.
-use Rattle.std.specs.Prelude.{ℕ, suc, ◌≤◌, ◌<◌, ◌≡◌, Bool, true, not, ◌&&◌, List, length, get_or, set, eqb, leb, ltb}
-use Rattle.word.specs.Choice.{pick, bit}
+use Rattle.std.specs.Prelude.{ℕ, suc, ◌≤◌, ◌<◌, ◌≡◌, Bool, true, false, not, ◌&&◌, List, length, get_or, set, eqb, leb, ltb, Result, Ok, Err}
+use Rattle.word.specs.Choice.{pick}
 use Rattle.word.specs.Limits.{most_nodes, widest}
 use Rattle.refusal.specs.Answer.{Answer, refusal_of, refused_at}
+use Rattle.refusal.specs.declared.Refusal.{Refusal}
 use Rattle.arity.specs.Tree.{Tree, ins, outs, size, need}
 use Rattle.arity.specs.Tree.Tree.{join, ondemand}
 use Rattle.arity.specs.Table.{kind_at, first_at, second_at, nodes, tree, composition_of}
@@ -10,10 +11,6 @@ use Rattle.arity.specs.Check.{first_in_range, second_in_range, taken, rule, feed
 use Rattle.arity.specs.Survey.{shape_numbers, row_for, row_of, row_at, put_row}
 use Rattle.arity.specs.declared.counts.Counts.{Counts}
 use Rattle.arity.specs.declared.rows.Row.{Row}
-use Rattle.arity.specs.declared.node.Judged.{Judged}
-use Rattle.arity.specs.declared.node.Judged.TheVariants.{Right, Wrong}
-use Rattle.arity.specs.declared.node.Stepped.{Stepped}
-use Rattle.arity.specs.declared.node.Stepped.TheVariants.{Next, Stop}
 
 -- the counts of a tree, with the cells that its root owns
 abbrev pub counts_of : Tree → Counts
@@ -49,24 +46,24 @@ pub record Joinable (kind : ℕ) (l r : Row) : Type 0 where
   pub fits : rule_of kind l r ≡ true
 
 -- the survey before node i: no node was refused, each has its row, and each child its mark
-pub record State (table shape marks : List ℕ) (i : ℕ) : Type 0 where
+pub record State (table shape : List ℕ) (marks : List Bool) (i : ℕ) : Type 0 where
   pub most : nodes table ≤ most_nodes
   pub room : length shape ≡ shape_numbers
   pub long : length marks ≡ most_nodes
   pub right : (j : ℕ) → j < i → refusal_at table j ≡ 0
   pub rows : (j : ℕ) → j < i → row_at shape j ≡ row_of table j
-  pub marked : (c : ℕ) → c < most_nodes → get_or marks c 0 ≡ bit (taken table i c)
+  pub marked : (c : ℕ) → c < most_nodes → get_or marks c false ≡ taken table i c
 
 -- refusal 6 by the marks
-abbrev pub free_in : List ℕ → ℕ → ℕ → Bool
-free_in marks i c = ltb c i && eqb (get_or marks c 0) 0
+abbrev pub free_in : List Bool → ℕ → ℕ → Bool
+free_in marks i c = ltb c i && not (get_or marks c false)
 
-abbrev pub children_in : ℕ → List ℕ → (i l r : ℕ) → Bool
+abbrev pub children_in : ℕ → List Bool → (i l r : ℕ) → Bool
 children_in kind marks i l r = pick (leb kind 11) (not (eqb l r) && (free_in marks i l && free_in marks i r)) (free_in marks i l)
 
 -- the marks with the children of one more node
-abbrev pub marking : ℕ → ℕ → ℕ → List ℕ → List ℕ
-marking kind l r marks = pick (leb kind 6) marks (pick (leb kind 11) (set (set marks l 1) r 1) (set marks l 1))
+abbrev pub marking : ℕ → ℕ → ℕ → List Bool → List Bool
+marking kind l r marks = pick (leb kind 6) marks (pick (leb kind 11) (set (set marks l true) r true) (set marks l true))
 
 -- node i has children, and 4 and 5 do not refuse it
 pub record Branching (table : List ℕ) (i : ℕ) : Type 0 where
@@ -80,15 +77,11 @@ pub record Branching (table : List ℕ) (i : ℕ) : Type 0 where
 abbrev pub Refuses : List ℕ → ℕ → Answer → Type 0
 Refuses table i a = (a ≡ refused_at (refusal_at table i) i) × (refusal_at table i ≡ 0 → ⊥)
 
-abbrev pub Judges : List ℕ → ℕ → Judged → Type 0
-Judges table i (Right n) = (refusal_at table i ≡ 0) × (n ≡ counts_of (tree table i))
-Judges table i (Wrong r) = Refuses table i (refusal_of r)
+abbrev pub Judges : List ℕ → ℕ → Result Counts Refusal → Type 0
+Judges table i (Ok n) = (refusal_at table i ≡ 0) × (n ≡ counts_of (tree table i))
+Judges table i (Err r) = Refuses table i (refusal_of r)
 
 -- after a step at node i from the shape s: one node more, or the node's refusal
-abbrev pub Steps : List ℕ → ℕ → Stepped → (s shape marks : List ℕ) → Type 0
-Steps table i (Next cell) s shape marks = State table shape marks (suc i) × (cell ≡ first_cell table (suc i)) × (shape ≡ put_row s i (row_of table i))
-Steps table i (Stop r) s shape marks = Refuses table i (refusal_of r) × (shape ≡ s)
-
--- refusal 9 by the marks of n nodes
-unfoldable pub loose_in : List ℕ → ℕ → ℕ → Bool
-loose_in marks n p = ltb (suc p) n && eqb (get_or marks p 0) 0
+abbrev pub Steps : List ℕ → ℕ → Result ℕ Refusal → (s shape : List ℕ) → List Bool → Type 0
+Steps table i (Ok cell) s shape marks = State table shape marks (suc i) × (cell ≡ first_cell table (suc i)) × (shape ≡ put_row s i (row_of table i))
+Steps table i (Err r) s shape marks = Refuses table i (refusal_of r) × (shape ≡ s)

@@ -2,9 +2,12 @@
 ghost use Rattle.std.specs.Prelude.{◌≡◌, ◌<◌};
 ghost use Rattle.arity.specs.Table.{nodes, kind_at, first_at, second_at};
 ghost use Rattle.arity.specs.Check.{first_in_range, second_in_range};
+ghost use Rattle.arity.specs.Kinds.{number_of};
 
+use super::kinds::Kind;
 use word::limits::{LAST_SLOT, LONGEST_DELAY};
 
+// A table stays numbers, as C lends it; each of its fields is read by the document's name.
 pub fn kind_of(table: &[u32], node: usize) -> u32
     requires { node < nodes table.now }
     ensures { result ≡ kind_at table.now node }
@@ -26,37 +29,44 @@ pub fn second_of(table: &[u32], node: usize) -> u32
     table[3 * node + 2]
 }
 
-// Refusal 5 for the first field, where it is no child.
+impl Kind {
+    // Refusal 5 for the first field of a node of this kind, where it is no child.
+    pub fn first_in_range(self, first: u32) -> bool
+        ensures { result ≡ first_in_range (number_of self) first }
+    {
+        match self {
+            Kind::Control => first <= LAST_SLOT,
+            Kind::Operation => 0 < word::operands(first),
+            Kind::Delay => first <= LONGEST_DELAY,
+            Kind::Cable | Kind::Cut => first == 0,
+            _ => true,
+        }
+    }
+
+    // Refusal 5 for the second field, where it is no child.
+    pub fn second_in_range(self, second: u32) -> bool
+        ensures { result ≡ second_in_range (number_of self) second }
+    {
+        self.is_composition() || second == 0
+    }
+}
+
+// Refusal 5 for the first field by the number of a kind, where there is such a kind: public before `Kind`.
 pub fn first_in_range(kind: u32, first: u32) -> bool
     ensures { result ≡ first_in_range kind first }
 {
-    if kind == 2 {
-        return first <= LAST_SLOT;
+    match Kind::numbered(kind) {
+        Some(kind) => kind.first_in_range(first),
+        None => true,
     }
-    if kind == 3 {
-        return 0 < word::operands(first);
-    }
-    if kind == 4 {
-        return first <= LONGEST_DELAY;
-    }
-    if kind == 5 {
-        return first == 0;
-    }
-    if kind == 6 {
-        return first == 0;
-    }
-    true
 }
 
-// Refusal 5 for the second field, where it is no child.
+// Likewise for the second field.
 pub fn second_in_range(kind: u32, second: u32) -> bool
     ensures { result ≡ second_in_range kind second }
 {
-    if kind < 7 {
-        return second == 0;
+    match Kind::numbered(kind) {
+        Some(kind) => kind.second_in_range(second),
+        None => second == 0,
     }
-    if kind <= 11 {
-        return true;
-    }
-    second == 0
 }

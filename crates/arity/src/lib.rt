@@ -2,8 +2,10 @@
 #![tactic(auto)]
 
 mod children;
+pub mod circuit;
 mod counts;
 pub mod fields;
+pub mod kinds;
 mod node;
 pub mod rows;
 mod rules;
@@ -13,67 +15,45 @@ ghost use Rattle.arity.specs.Check.{answer_of, checked};
 ghost use Rattle.arity.specs.Survey.{shape_numbers, surveyed};
 
 use children::find_loose;
-use node::{Stepped, step};
+pub use counts::Counts;
+use node::step;
 use refusal::Refusal;
 use rows::{SHAPE, row_at};
 use word::limits::{MOST_NODES, NODES};
 
-#[derive(Drop)]
-pub enum CheckAnswer {
-    Accepted {
-        inputs: u32,
-        outputs: u32,
-        instructions: u32,
-        cells: u32,
-    },
-    Refused(Refusal),
-}
-
 // The check, which leaves in `shape` four numbers for each node up to the first refused one: inputs, outputs, instructions and first cell.
-pub fn survey(table: &[u32], shape: &mut [u32; SHAPE]) -> CheckAnswer
+pub fn survey(table: &[u32], shape: &mut [u32; SHAPE]) -> Result<Counts, Refusal>
     requires { length shape.old ≡ shape_numbers }
     ensures answer { answer_of result ≡ checked table.now }
     ensures rows { shape.new ≡ surveyed table.now shape.old }
 {
     let count = table.len();
-    if count == 0 {
-        return CheckAnswer::Refused(Refusal::WrongNodeCount(0));
-    }
-    if count % 3 != 0 {
-        return CheckAnswer::Refused(Refusal::WrongNodeCount(0));
+    if count == 0 || count % 3 != 0 {
+        return Err(Refusal::WrongNodeCount(0));
     }
     let n = count / 3;
     if NODES < n {
-        return CheckAnswer::Refused(Refusal::WrongNodeCount(MOST_NODES));
+        return Err(Refusal::WrongNodeCount(MOST_NODES));
     }
-    let mut marks = [0u32; NODES];
+    let mut marks = [false; NODES];
     let mut cells: u32 = 0;
-    let mut i: usize = 0;
-    while i < n {
-        let stepped = step(table, shape, &mut marks, i, cells);
-        match stepped {
-            Stepped::Stop(r) => return CheckAnswer::Refused(r),
-            Stepped::Next(next) => {
-                cells = next;
-                i += 1;
-            }
-        }
+    for i in 0..n {
+        cells = step(table, shape, &mut marks, i, cells)?;
     }
-    let p = find_loose(&marks, n);
-    if p < n {
-        return CheckAnswer::Refused(Refusal::LooseNode(p as u32));
+    if let Some(p) = find_loose(&marks, n) {
+        return Err(Refusal::LooseNode(p as u32));
     }
     let last = row_at(shape, n - 1);
-    CheckAnswer::Accepted {
+    Ok(Counts {
         inputs: last.inputs,
         outputs: last.outputs,
         instructions: last.instructions,
-        cells: cells,
-    }
+        cells,
+    })
 }
 
 // Whether a table is a circuit, with its inputs, outputs, instructions and cells.
-pub fn check(table: &[u32]) -> CheckAnswer
+pub fn check(table: &[u32]) -> Result<Counts, Refusal>
     ensures { answer_of result ≡ checked table.now }
 {
     let mut shape = [0u32; SHAPE];

@@ -6,10 +6,10 @@ ghost use Rattle.arity.specs.Survey.{row_at, put_row};
 use word::index;
 use word::limits::NODES;
 
-// The numbers of a shape.
+// The numbers of a shape. They stay numbers: what `survey` promises of the lent buffer is said of each number.
 pub const SHAPE: usize = 4 * NODES;
 
-// The inputs, outputs and instructions of a node's tree, and its first cell.
+// The inputs, outputs and instructions of a node's tree, and its first cell: no `Counts`, whose fourth is a count.
 #[derive(Clone, Copy)]
 pub struct Row {
     pub inputs: u32,
@@ -31,6 +31,7 @@ pub fn row_at(shape: &[u32; SHAPE], node: usize) -> Row
     }
 }
 
+// One number of a row, where `row_at` reads four.
 pub fn inputs_of(shape: &[u32; SHAPE], node: usize) -> usize
     requires { node < most_nodes }
     ensures { result ≡ (row_at shape.now node).inputs }

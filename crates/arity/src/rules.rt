@@ -1,8 +1,10 @@
 // Refusals 7 and 16: the arity rules, and what a recursion feeds back.
 ghost use Rattle.std.specs.Prelude.{◌≡◌};
 ghost use Rattle.arity.specs.Check.{multiple};
+ghost use Rattle.arity.specs.Kinds.{number_of};
 ghost use Rattle.arity.specs.Steps.{rule_of, feedback_of};
 
+use super::kinds::Kind;
 use super::rows::Row;
 
 // Whether n is b some number of times, at least once.
@@ -19,33 +21,24 @@ fn is_multiple(b: u32, n: u32) -> bool
 }
 
 // Whether the rule of a kind fits a left and a right side.
-pub fn rule_fits(kind: u32, l: Row, r: Row) -> bool
-    ensures { result ≡ rule_of kind l r }
+pub fn rule_fits(kind: Kind, l: Row, r: Row) -> bool
+    ensures { result ≡ rule_of (number_of kind) l r }
 {
-    if kind == 7 {
-        return l.outputs == r.inputs;
+    match kind {
+        Kind::Sequence => l.outputs == r.inputs,
+        Kind::Split => is_multiple(l.outputs, r.inputs),
+        Kind::Merge => is_multiple(r.inputs, l.outputs),
+        Kind::Recursion => r.inputs <= l.outputs && r.outputs <= l.inputs,
+        _ => true,
     }
-    if kind == 9 {
-        return is_multiple(l.outputs, r.inputs);
-    }
-    if kind == 10 {
-        return is_multiple(r.inputs, l.outputs);
-    }
-    if kind == 11 {
-        return r.inputs <= l.outputs && r.outputs <= l.inputs;
-    }
-    true
 }
 
 // Whether the right side of a recursion has an input or an output; another kind need not.
-pub fn feeds_back(kind: u32, r: Row) -> bool
-    ensures { result ≡ feedback_of kind r }
+pub fn feeds_back(kind: Kind, r: Row) -> bool
+    ensures { result ≡ feedback_of (number_of kind) r }
 {
-    if kind != 11 {
-        return true;
+    match kind {
+        Kind::Recursion => r.inputs != 0 || r.outputs != 0,
+        _ => true,
     }
-    if r.inputs != 0 {
-        return true;
-    }
-    r.outputs != 0
 }

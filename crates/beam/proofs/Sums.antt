@@ -9,10 +9,10 @@ use lib.Seq.{take-suc-set}
 use Rattle.word.specs.Operation.{add}
 use Rattle.signal.specs.Signal.{sum_from, sums_from}
 
-pub sum-next : (left b total next v s : ℕ) (xs : List ℕ) → 0 < left → v ≡ get_or xs next 0 → s ≡ add total v → sum_from (left - 1) b s (next + b) xs ≡ sum_from left b total next xs
-sum-next left b total next v s xs h e f =
-    let l : ℕ = left - 1 in
-    let z : left ≡ suc l = omega arith in
+pub sum-next : (k i b total next v s : ℕ) (xs : List ℕ) → i < k → v ≡ get_or xs next 0 → s ≡ add total v → sum_from (k - (i + 1)) b s (next + b) xs ≡ sum_from (k - i) b total next xs
+sum-next k i b total next v s xs h e f =
+    let l : ℕ = k - (i + 1) in
+    let z : k - i ≡ suc l = omega arith in
     ap (λ (w : ℕ). sum_from l b w (next + b) xs) (f ∙ ap (add total) e) ∙ ap (λ (n : ℕ). sum_from n b total next xs) (sym z)
 
 pub sum_done : (left b total next : ℕ) (xs : List ℕ) → left ≡ 0 → sum_from left b total next xs ≡ total

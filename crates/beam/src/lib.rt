@@ -1,4 +1,5 @@
-// Beams by value: of the 32 places of an array the first so many count, and the rest is whatever it is.
+// Beams by value: of the 32 places of an array the first so many count, and the rest is whatever it is. No length lies
+// inside: the survey has it.
 #![tactic(auto)]
 
 ghost use Rattle.std.specs.Prelude.{◌≡◌, [], ◌∷◌, ◌++◌, ℕ, ◌+◌, ◌-◌, ◌*◌, ◌≤◌, length, get_or, take, drop};
@@ -23,10 +24,7 @@ pub fn entry(a: &[u32], n: usize, at: usize) -> u32
     if n <= at {
         return 0;
     }
-    if at < a.len() {
-        return a[at];
-    }
-    0
+    a.get(at).copied().unwrap_or(0)
 }
 
 // The first n of a, then the first m of b.
@@ -35,11 +33,8 @@ pub fn joined(a: [u32; BEAM], n: usize, b: [u32; BEAM], m: usize) -> [u32; BEAM]
     ensures { take (n + m) result ≡ take n a ++ take m b }
 {
     let mut r = a;
-    let mut i: usize = 0;
-    while i < m {
-        r[n + i] = b[i];
-        i += 1;
-    }
+    let end = n + m;
+    r[n..end].copy_from_slice(&b[..m]);
     r
 }
 
@@ -49,11 +44,8 @@ pub fn after(a: [u32; BEAM], n: usize) -> [u32; BEAM]
     ensures { take (widest - n) result ≡ drop n a }
 {
     let mut r = a;
-    let mut i: usize = 0;
-    while n + i < BEAM {
-        r[i] = a[n + i];
-        i += 1;
-    }
+    let rest = BEAM - n;
+    r[..rest].copy_from_slice(&a[n..]);
     r
 }
 
@@ -63,10 +55,8 @@ pub fn repeated(a: [u32; BEAM], b: usize, n: usize) -> [u32; BEAM]
     ensures { (k : ℕ) → k * b ≡ n → take n result ≡ copies k (take b a) }
 {
     let mut r = a;
-    let mut i = b;
-    while i < n {
+    for i in b..n {
         r[i] = r[i - b];
-        i += 1;
     }
     r
 }
@@ -78,11 +68,9 @@ fn sum(a: &[u32], m: usize, k: usize, b: usize, acc: u32, at: usize) -> u32
 {
     let mut total = acc;
     let mut next = at;
-    let mut left = k;
-    while 0 < left {
+    for i in 0..k {
         total = add(total, entry(a, m, next));
         next += b;
-        left -= 1;
     }
     total
 }
@@ -97,11 +85,9 @@ pub fn merged(a: [u32; BEAM], m: usize, b: usize) -> [u32; BEAM]
     }
     let more = m / b - 1;
     let mut r = a;
-    let mut i: usize = 0;
-    while i < b {
+    for i in 0..b {
         let first = entry(&a, m, i);
         r[i] = sum(&a, m, more, b, first, i + b);
-        i += 1;
     }
     r
 }
@@ -112,11 +98,8 @@ pub fn fetched(cells: &[u32], base: usize, n: usize) -> [u32; BEAM]
     ensures { take n result ≡ part base n cells.now }
 {
     let mut r = [0u32; BEAM];
-    let mut i: usize = 0;
-    while i < n {
-        r[i] = cells[base + i];
-        i += 1;
-    }
+    let end = base + n;
+    r[..n].copy_from_slice(&cells[base..end]);
     r
 }
 
@@ -125,11 +108,7 @@ pub fn keep(cells: &mut [u32], base: usize, n: usize, a: [u32; BEAM])
     requires { (n ≤ widest) × (base + n ≤ length cells.old) }
     ensures { cells.new ≡ store base (take n a) cells.old }
 {
-    let mut i: usize = 0;
-    while i < n {
-        cells[base + i] = a[i];
-        i += 1;
-    }
+    keep_list(cells, base, &a[..n]);
 }
 
 // A list, kept from `base` on.
@@ -137,9 +116,6 @@ pub fn keep_list(cells: &mut [u32], base: usize, list: &[u32])
     requires { base + length list.now ≤ length cells.old }
     ensures { cells.new ≡ store base list.now cells.old }
 {
-    let mut i: usize = 0;
-    while i < list.len() {
-        cells[base + i] = list[i];
-        i += 1;
-    }
+    let end = base + list.len();
+    cells[base..end].copy_from_slice(list);
 }

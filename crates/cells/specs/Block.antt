@@ -1,15 +1,21 @@
 -- A block of ticks that is worked in one call: what the call brings, and its complete result.
-use Rattle.std.specs.Prelude.{ℕ, zero, suc, ◌+◌, ◌*◌, Bool, List, [], ◌∷◌, ◌++◌, length, get_or, drop, take, eqb, leb}
+use Rattle.std.specs.Prelude.{ℕ, zero, suc, ◌+◌, ◌*◌, Bool, List, [], ◌∷◌, ◌++◌, length, get_or, drop, take, eqb, leb, Result, Ok, Err}
 use Rattle.word.specs.Choice.{pick, ◌and◌, bit}
 use Rattle.word.specs.Limits.{control_count, most_ticks}
 use Rattle.word.specs.Tick.{Tick, tick, Stepped, head_or}
-use Rattle.refusal.specs.Answer.{Answer, count, refused_all}
+use Rattle.refusal.specs.declared.Refusal.{Refusal}
+use Rattle.refusal.specs.Answer.{Answer, count, refused_all, refusal_of}
 use Rattle.refusal.specs.Answer.Answer.{counts, refused}
+use Rattle.cells.specs.declared.Samples.{Samples}
 
 -- the answer of walker or runner: the count of samples and, beside it, E6, "in how many ticks of the call at least one delay that was worked in that tick
 -- was clipped"
 abbrev pub with_report : ℕ → ℕ → Answer
 with_report samples clips = counts (samples ∷ clips ∷ [])
+
+abbrev pub answer_of : Result Samples Refusal → Answer
+answer_of (Ok s) = with_report s.count s.clipped
+answer_of (Err r) = refusal_of r
 
 -- how much was written, and what was reported: a refused call has no report
 abbrev pub counted : Answer → ℕ

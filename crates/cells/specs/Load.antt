@@ -3,15 +3,8 @@ use Rattle.std.specs.Prelude.{ℕ, List, ◌++◌, length, drop, leb}
 use Rattle.word.specs.Choice.{pick}
 use Rattle.word.specs.Limits.{most_cells}
 use Rattle.word.specs.Tick.{zeros}
-use Rattle.refusal.specs.Answer.{Answer, count, refused_all, refusal_of}
+use Rattle.refusal.specs.Answer.{count, refused_all}
 use Rattle.refusal.specs.Outcome.{Outcome, outcome}
-use Rattle.cells.specs.declared.LoadAnswer.{LoadAnswer}
-use Rattle.cells.specs.declared.LoadAnswer.TheVariants.{Cells, Refused}
-
--- the document's answer for each case
-abbrev pub answer_of : LoadAnswer → Answer
-answer_of (Cells n) = count n
-answer_of (Refused r) = refusal_of r
 
 -- the complete result of a load: "Load: 11, 12"; a refusal changes nothing
 unfoldable pub loaded : ℕ → List ℕ → Outcome

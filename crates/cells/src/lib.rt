@@ -6,14 +6,18 @@ ghost use Rattle.word.specs.Choice.{◌or◌};
 ghost use Rattle.word.specs.Limits.{widest};
 ghost use Rattle.word.specs.Word.{clamp as clamp_of, clipped as clipped_of};
 ghost use Rattle.word.specs.Tick.{zeros};
+ghost use Rattle.refusal.specs.Answer.{answer_of};
 ghost use Rattle.refusal.specs.Outcome.{outcome};
-ghost use Rattle.cells.specs.Load.{loaded, answer_of};
+ghost use Rattle.cells.specs.Load.{loaded};
 ghost use Rattle.cells.specs.Block.{block_ok};
 ghost use Rattle.cells.specs.Delay.{position as position_of, delayed as delayed_of, moved as moved_of};
 
 use refusal::Refusal;
 use word::index;
 use word::limits::{CELLS, CONTROLS, MOST_TICKS};
+
+// From here on words stand for negative numbers.
+const HALF: u32 = 2147483648;
 
 // How far back, from 0 to d. What is not clipped is tested first, by the one comparison that tells.
 fn clamp(amount: u32, d: usize) -> usize
@@ -24,7 +28,7 @@ fn clamp(amount: u32, d: usize) -> usize
     if a <= d {
         return a;
     }
-    if amount < 2147483648 {
+    if amount < HALF {
         return d;
     }
     0
@@ -96,7 +100,7 @@ fn moved(line: &mut [u32], p: usize, input: u32, d: usize)
     line[0] = after(p, d) as u32;
 }
 
-// What a delay step gives: its value, and whether the amount was outside 0 to d.
+// What a delay step gives: its value, and whether the amount was outside 0 to d. Both at once, so no Option.
 #[derive(Drop)]
 pub struct Delayed {
     pub value: u32,
@@ -134,9 +138,7 @@ pub fn delay_at(cells: &mut [u32], base: usize, d: usize, input: u32, amount: u3
 pub fn tell(told: &mut bool, clipped: bool)
     ensures { told.new ≡ (told.old or clipped) }
 {
-    if clipped {
-        *told = true;
-    }
+    *told |= clipped;
 }
 
 // The first count cells are set to 0.
@@ -144,33 +146,29 @@ pub fn clear(cells: &mut [u32], count: usize)
     requires { count ≤ length cells.old }
     ensures { cells.new ≡ zeros count ++ drop count cells.old }
 {
-    let mut i: usize = 0;
-    while i < count {
-        cells[i] = 0;
-        i += 1;
-    }
+    cells[..count].fill(0);
 }
 
-// The count of cells that a load calls for, or its refusal.
-#[derive(Drop)]
-pub enum LoadAnswer {
-    Cells(u32),
-    Refused(Refusal),
-}
-
-// The load: the named count of cells is set to 0.
-pub fn load(named: u32, cells: &mut [u32]) -> LoadAnswer
+// The load: the named count of cells, which it calls for, is set to 0; or its refusal.
+pub fn load(named: u32, cells: &mut [u32]) -> Result<u32, Refusal>
     ensures { outcome (answer_of result) cells.new ≡ loaded named cells.old }
 {
     let count = index(named);
     if count > CELLS {
-        return LoadAnswer::Refused(Refusal::TooManyCells);
+        return Err(Refusal::TooManyCells);
     }
     if count > cells.len() {
-        return LoadAnswer::Refused(Refusal::ShortBuffer);
+        return Err(Refusal::ShortBuffer);
     }
     clear(cells, count);
-    LoadAnswer::Cells(named)
+    Ok(named)
+}
+
+// What walker and runner answer: how many output samples a call calls for, and in how many of its ticks a delay was clipped.
+#[derive(Clone, Copy)]
+pub struct Samples {
+    pub count: u32,
+    pub clipped: u32,
 }
 
 // Does row 14 let a call pass that is for n inputs a tick?

@@ -28,12 +28,9 @@ use Rattle.flat.specs.Run.{ran}
 abbrev Few : Ran → Type 0
 Few r = report_of r.answer ≤ most_ticks
 
--- what is few of a result is few of the answer in it, and of the case that this is
+-- what is few of a result is few of the answer in it
 pub few-answer : {a : Answer} {cells outputs : List ℕ} (x : Ran) → ran_as a cells outputs ≡ x → Few x → report_of a ≤ most_ticks
 few-answer x e f = subst (λ (y : Ran). Few y) (sym e) f
-
-pub few_case : {B : Type 0} (of : B → Answer) {a b : B} → a ≡ b → report_of (of a) ≤ most_ticks → report_of (of b) ≤ most_ticks
-few_case {B} of e f = subst (λ (y : B). report_of (of y) ≤ most_ticks) e f
 
 few_either : (b : Bool) (r s : Ran) → Few r → Few s → Few (pick b r s)
 few_either true r s f g = f

@@ -4,26 +4,21 @@
 
 ghost use Rattle.std.specs.Prelude.{◌≡◌, ◌≤◌};
 ghost use Rattle.word.specs.Limits.{most_ticks};
-ghost use Rattle.refusal.specs.Answer.{refusal_of};
-ghost use Rattle.cells.specs.Block.{with_report, report_of};
+ghost use Rattle.refusal.specs.Answer.{refusal_of, answer_of as counted_of};
+ghost use Rattle.refusal.specs.Outcome.{outcome};
+ghost use Rattle.cells.specs.Block.{with_report, report_of, answer_of};
 ghost use Rattle.cells.specs.Load.{loaded};
 ghost use Rattle.column.specs.File.{reading, writing};
 ghost use Rattle.joining.specs.Join.{joined_tables};
-ghost use Rattle.walker.specs.Walk.{answer_of, walked_table, probed_table};
+ghost use Rattle.walker.specs.Walk.{walked_table, probed_table};
 ghost use Rattle.translator.specs.Translate.{translated_table};
 ghost use Rattle.flat.specs.Run.{ran};
 ghost use Rattle.circuit.specs.Encoded.{encoded};
 ghost use Rattle.circuit.specs.Decoded.{clipped_in};
 ghost use Rattle.circuit.specs.Report.{reporting};
 
-use arity::CheckAnswer;
-use cells::LoadAnswer;
-use column::{ReadAnswer, WriteAnswer};
-use flat::RunAnswer;
-use joining::JoinAnswer;
+use cells::Samples;
 use refusal::Refusal;
-use translator::TranslateAnswer;
-use walker::WalkAnswer;
 
 // Where the parts of an answer begin: the refusal's number, and the report of walker and runner.
 const UPPER: u64 = 4294967296;
@@ -34,7 +29,51 @@ const REPORT: u64 = 281474976710656;
 fn refused(refusal: Refusal) -> u64
     ensures { result ≡ encoded (refusal_of refusal) }
 {
-    refusal::number(refusal) as u64 * UPPER + refusal::place(refusal) as u64
+    refusal.number() as u64 * UPPER + refusal.place() as u64
+}
+
+// The answer of a call that counts one thing.
+fn counted(answer: Result<u32, Refusal>) -> u64
+    ensures { result ≡ encoded (counted_of answer) }
+{
+    match answer {
+        Ok(count) => count as u64,
+        Err(refusal) => refused(refusal),
+    }
+}
+
+// The answer of an accepted walk or run: its samples, and its report.
+fn worked(samples: Samples) -> u64
+    requires { samples.clipped ≤ most_ticks }
+    ensures { result ≡ encoded (with_report samples.count samples.clipped) }
+{
+    samples.clipped as u64 * REPORT + samples.count as u64
+}
+
+// The answer of a walk or a run.
+fn reported(answer: Result<Samples, Refusal>) -> u64
+    requires { report_of (answer_of answer) ≤ most_ticks }
+    ensures { result ≡ encoded (answer_of answer) }
+{
+    match answer {
+        Ok(samples) => worked(samples),
+        Err(refusal) => refused(refusal),
+    }
+}
+
+// Inputs, outputs, instructions and cells of a table into the first four of counts.
+fn report(table: &[u32], counts: &mut [u32]) -> Result<u32, Refusal>
+    ensures { outcome (counted_of result) counts.new ≡ reporting table.now counts.old }
+{
+    let found = arity::check(table)?;
+    if counts.len() < 4 {
+        return Err(Refusal::ShortBuffer);
+    }
+    counts[0] = found.inputs;
+    counts[1] = found.outputs;
+    counts[2] = found.instructions;
+    counts[3] = found.cells;
+    Ok(4)
 }
 
 // The check: inputs, outputs, instructions and cells into the first four of counts.
@@ -43,25 +82,7 @@ pub extern "C" fn circuit_check(table: &[u32], counts: &mut [u32]) -> u64
     ensures answer { result ≡ encoded (reporting table.now counts.old).answer }
     ensures counts { counts.new ≡ (reporting table.now counts.old).buffer }
 {
-    let answer = arity::check(table);
-    match answer {
-        CheckAnswer::Refused(r) => return refused(r),
-        CheckAnswer::Accepted {
-            inputs: n,
-            outputs: m,
-            instructions: c,
-            cells: d,
-        } => {
-            if counts.len() < 4 {
-                return refused(Refusal::ShortBuffer);
-            }
-            counts[0] = n;
-            counts[1] = m;
-            counts[2] = c;
-            counts[3] = d;
-            return 4;
-        }
-    }
+    counted(report(table, counts))
 }
 
 // The reader: a column file into a table.
@@ -70,11 +91,7 @@ pub extern "C" fn circuit_read(file: &[u8], table: &mut [u32]) -> u64
     ensures answer { result ≡ encoded (reading file.now table.old).answer }
     ensures table { table.new ≡ (reading file.now table.old).buffer }
 {
-    let answer = column::read(file, table);
-    match answer {
-        ReadAnswer::Refused(r) => return refused(r),
-        ReadAnswer::Nodes(n) => return n as u64,
-    }
+    counted(column::read(file, table))
 }
 
 // The writer: a table into a column file.
@@ -83,11 +100,7 @@ pub extern "C" fn circuit_write(table: &[u32], file: &mut [u8]) -> u64
     ensures answer { result ≡ encoded (writing table.now file.old).answer }
     ensures file { file.new ≡ (writing table.now file.old).buffer }
 {
-    let answer = column::write(table, file);
-    match answer {
-        WriteAnswer::Refused(r) => return refused(r),
-        WriteAnswer::Bytes(n) => return n as u64,
-    }
+    counted(column::write(table, file))
 }
 
 // Two tables joined by a node of a kind from 7 to 11.
@@ -96,11 +109,7 @@ pub extern "C" fn circuit_join(kind: u32, first: &[u32], second: &[u32], joined:
     ensures answer { result ≡ encoded (joined_tables kind first.now second.now joined.old).answer }
     ensures joined { joined.new ≡ (joined_tables kind first.now second.now joined.old).buffer }
 {
-    let answer = joining::join(kind, first, second, joined);
-    match answer {
-        JoinAnswer::Refused(r) => return refused(r),
-        JoinAnswer::Numbers(n) => return n as u64,
-    }
+    counted(joining::join(kind, first, second, joined))
 }
 
 // The translator: a table into flat code.
@@ -109,11 +118,7 @@ pub extern "C" fn circuit_translate(table: &[u32], code: &mut [u32]) -> u64
     ensures answer { result ≡ encoded (translated_table table.now code.old).answer }
     ensures code { code.new ≡ (translated_table table.now code.old).buffer }
 {
-    let answer = translator::translate(table, code);
-    match answer {
-        TranslateAnswer::Refused(r) => return refused(r),
-        TranslateAnswer::Numbers(n) => return n as u64,
-    }
+    counted(translator::translate(table, code))
 }
 
 // The load: the named count of cells is set to 0.
@@ -122,33 +127,7 @@ pub extern "C" fn circuit_load(named: u32, cells: &mut [u32]) -> u64
     ensures answer { result ≡ encoded (loaded named cells.old).answer }
     ensures cells { cells.new ≡ (loaded named cells.old).buffer }
 {
-    let answer = cells::load(named, cells);
-    match answer {
-        LoadAnswer::Refused(r) => return refused(r),
-        LoadAnswer::Cells(n) => return n as u64,
-    }
-}
-
-// The answer of an accepted walk or run: its samples, and its report.
-fn worked(count: u32, clipped: u32) -> u64
-    requires { clipped ≤ most_ticks }
-    ensures { result ≡ encoded (with_report count clipped) }
-{
-    clipped as u64 * REPORT + count as u64
-}
-
-// The answer of a walk.
-fn walked(answer: WalkAnswer) -> u64
-    requires { report_of (answer_of answer) ≤ most_ticks }
-    ensures { result ≡ encoded (answer_of answer) }
-{
-    match answer {
-        WalkAnswer::Refused(r) => return refused(r),
-        WalkAnswer::Samples {
-            count: n,
-            clipped: k,
-        } => return worked(n, k),
-    }
+    counted(cells::load(named, cells))
 }
 
 // The walker: a block of ticks of a table.
@@ -165,8 +144,7 @@ pub extern "C" fn circuit_walk(
     ensures cells { cells.new ≡ (walked_table table.now ticks inputs.now controls.now cells.old outputs.old).cells }
     ensures outputs { outputs.new ≡ (walked_table table.now ticks inputs.now controls.now cells.old outputs.old).outputs }
 {
-    let answer = walker::walk(table, ticks, inputs, controls, cells, outputs);
-    walked(answer)
+    reported(walker::walk(table, ticks, inputs, controls, cells, outputs))
 }
 
 // The walker with probes: beside a block's samples what the probes show at each of its ticks, and what they showed last.
@@ -188,10 +166,9 @@ pub extern "C" fn circuit_walk_probed(
     ensures latest { latest.new ≡ (probed_table table.now probes.now ticks inputs.now controls.now cells.old outputs.old latest.old recording.old).latest }
     ensures recording { recording.new ≡ (probed_table table.now probes.now ticks inputs.now controls.now cells.old outputs.old latest.old recording.old).recording }
 {
-    let answer = walker::walk_probed(
+    reported(walker::walk_probed(
         table, probes, ticks, inputs, controls, cells, outputs, latest, recording,
-    );
-    walked(answer)
+    ))
 }
 
 // The runner: a block of ticks of a flat code.
@@ -208,14 +185,7 @@ pub extern "C" fn circuit_run(
     ensures cells { cells.new ≡ (ran code.now ticks inputs.now controls.now cells.old outputs.old).cells }
     ensures outputs { outputs.new ≡ (ran code.now ticks inputs.now controls.now cells.old outputs.old).outputs }
 {
-    let answer = flat::run(code, ticks, inputs, controls, cells, outputs);
-    match answer {
-        RunAnswer::Refused(r) => return refused(r),
-        RunAnswer::Samples {
-            count: samples,
-            clipped: clips,
-        } => return worked(samples, clips),
-    }
+    reported(flat::run(code, ticks, inputs, controls, cells, outputs))
 }
 
 // The report in the answer of a walk or a run: in how many ticks a delay was clipped; 0 in any other answer.

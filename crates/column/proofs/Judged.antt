@@ -1,7 +1,8 @@
 -- Lines that are judged one after another: a wrong one ends it, a right one leaves the rest.
 use Prim.Native.Nat.{ℕ, zero, suc, ◌+◌, ◌-◌, ◌*◌, ◌^◌, ◌≤◌, ◌<◌}
 use mathlib.Core.Path.{◌≡◌, refl, sym, ap, ap₂, ◌∙◌}
-use mathlib.Core.Bool.{true, false}
+use mathlib.Core.Bool.{Bool, true, false}
+use native.Mathlib.Numerals.{add-one}
 use mathlib.Core.List.{List, [], ◌∷◌}
 use mathlib.Core.Option.{Option, none, some}
 use native.Mathlib.Nat.{zero-add, suc-add}
@@ -10,12 +11,11 @@ use borrow.Author.Tests.{le-leb, lt-leb, eq-eqb, ne_eqb, eqb-true, ltb-true}
 use lib.Dec.{eqb}
 use lib.IntN.{ℤ, pos, negsuc}
 use lib.ListN.{length, get_or, take, drop, length-drop, drop_of_length-le}
-use lib.Seq.{drop-drop, take-take, take-nil}
+use lib.Seq.{drop-drop, take-take, take-nil, take_all}
 use Rattle.refusal.specs.Answer.{Answer, refused_at}
 use Rattle.word.specs.Word.{low}
 use Rattle.word.proofs.Lists.{first-true}
-use Rattle.number.specs.declared.Number.{Number}
-use Rattle.number.specs.declared.Number.TheVariants.{Word, Malformed}
+use Rattle.std.specs.Prelude.{Some, None}
 use Rattle.column.specs.Checks.{◌or◌}
 use Rattle.number.specs.Number.{number_in, fits}
 use Rattle.column.specs.Line.{lines, whole, column_of, is_node, number_refusal, column_refusal, line_refusal, entries}
@@ -23,7 +23,7 @@ use Rattle.column.specs.File.{lines_refusal}
 use Rattle.number.specs.Promises.{found}
 use Rattle.column.specs.Promises.{first_line}
 use Rattle.number.proofs.Texts.{read-column}
-use Rattle.column.proofs.Lines.{lines-first, first-take, first-within}
+use Rattle.column.proofs.Lines.{lines-first, first-take, first-within, first_prefix, whole_cut}
 
 pub or_none : (a : Option Answer) → a or none ≡ a
 or_none none = refl
@@ -68,7 +68,7 @@ line-columns : (i : ℕ) (l : List ℕ) → i < 512 → whole l ≡ true → lin
 unfolding line_refusal
 line-columns i l h w = rw (lt-leb 512 i h, w, or_none (column_refusal i l 3))
 
-whole-first : (file : List ℕ) (at : ℕ) → whole (first_line (drop at file)) ≡ true → length (first_line (drop at file)) ≡ 41
+pub whole-first : (file : List ℕ) (at : ℕ) → whole (first_line (drop at file)) ≡ true → length (first_line (drop at file)) ≡ 41
 whole-first file at w = eqb-true (length (first_line (drop at file))) 41 (first-true (eqb (length (first_line (drop at file))) 41) (eqb (get_or (first_line (drop at file)) 40 0) 10) w)
 
 -- the lines from `at` on, where the first is whole
@@ -97,13 +97,6 @@ module _ (file : List ℕ) (at i : ℕ) (some_left : at < length file) where
   unfolding line_refusal
   line_not_whole h w = rw (lines-some file at some_left, lt-leb 512 i h, w)
 
-pub line-whole : (file : List ℕ) (at i : ℕ) → i < 512 → whole (first_line (drop at file)) ≡ true →
-    lines_refusal i (lines (drop at file)) ≡ columns_left i (drop at file) 0 4 or lines_refusal (suc i) (lines (drop (at + 41) file))
-line-whole file at i h w =
-    let p = whole-line file at w in
-    let v : whole (take 41 (drop at file)) ≡ true = rw p.1.0 at w in
-    rw p.1.1 (ap (λ (r : Option Answer). r or lines_refusal (suc i) (lines (drop (at + 41) file))) (line-columns i (take 41 (drop at file)) h v ∙ columns_of_line i (drop at file) 0 4 (omega arith)))
-
 -- a column as found
 node_word : (i : ℕ) (z : ℤ) → i < 512 → fits z ≡ true → low z ≡ i → is_node i z ≡ true
 unfolding low
@@ -127,30 +120,71 @@ other-column : (i j : ℕ) (z : ℤ) → (j ≡ 0 → ⊥) → number_refusal i 
 other-column i zero z n = absurd (n refl)
 other-column i (suc j) z n = refl
 
-module _ (i : ℕ) (l : List ℕ) (j : ℕ) (r : Number) (p : r ≡ found (number_in (column_of j l))) where
-  pub column-malformed : r ≡ Malformed → column_refusal i l j ≡ some (refused_at 1 i)
-  column-malformed e = go (number_in (column_of j l)) (sym p ∙ e)
+module _ (i : ℕ) (l : List ℕ) (j : ℕ) where
+  pub column-malformed : None ≡ found (number_in (column_of j l)) → column_refusal i l j ≡ some (refused_at 1 i)
+  column-malformed e = go (number_in (column_of j l)) e
     where
-      go : (o : Option ℤ) → found o ≡ Malformed → number_refusal i j o ≡ some (refused_at 1 i)
+      go : (o : Option ℤ) → None ≡ found o → number_refusal i j o ≡ some (refused_at 1 i)
       go none q = refl
-      go (some z) q = let x : ◌≡◌ {A = ℕ} 0 1 = cc in absurd (omega arith)
+      go (some z) q = cc
 
-  number_word : (w : ℕ) → r ≡ Word w → (z : ℤ) × ((number_in (column_of j l) ≡ some z) × ((low z ≡ w) × (fits z ≡ true)))
+  number_word : (w : ℕ) → Some w ≡ found (number_in (column_of j l)) → (z : ℤ) × ((number_in (column_of j l) ≡ some z) × ((low z ≡ w) × (fits z ≡ true)))
   number_word w e = go (number_in (column_of j l)) refl
     where
       go : (o : Option ℤ) → number_in (column_of j l) ≡ o → (z : ℤ) × ((o ≡ some z) × ((low z ≡ w) × (fits z ≡ true)))
-      go none q = let x : ◌≡◌ {A = ℕ} 0 1 = cc in absurd (omega arith)
-      go (some z) q = let s : low z ≡ w = cc in (z, (refl, (s, (read-column (column_of j l) z q).1)))
+      go none q = let x : Some w ≡ None = e ∙ ap found q in absurd (cc)
+      go (some z) q = let x : Some w ≡ Some (low z) = e ∙ ap found q in let s : low z ≡ w = cc in (z, (refl, (s, (read-column (column_of j l) z q).1)))
 
-  pub column_wrong_node : (w : ℕ) → r ≡ Word w → j ≡ 0 → (w ≡ i → ⊥) → column_refusal i l j ≡ some (refused_at 2 i)
+  pub column_wrong_node : (w : ℕ) → Some w ≡ found (number_in (column_of j l)) → j ≡ 0 → (w ≡ i → ⊥) → column_refusal i l j ≡ some (refused_at 2 i)
   column_wrong_node w e z n =
       let g = number_word w e in
       ap (number_refusal i j) g.1.0 ∙ wrong_node i j g.0 z (other_word i g.0 g.1.1.1 (λ q. n (sym g.1.1.0 ∙ q)))
 
-  pub column_right_node : (w : ℕ) → r ≡ Word w → j ≡ 0 → w ≡ i → i < 512 → column_refusal i l j ≡ none
+  pub column_right_node : (w : ℕ) → Some w ≡ found (number_in (column_of j l)) → j ≡ 0 → w ≡ i → i < 512 → column_refusal i l j ≡ none
   column_right_node w e z n h =
       let g = number_word w e in
       ap (number_refusal i j) g.1.0 ∙ right-node i j g.0 z (node_word i g.0 h g.1.1.1 (g.1.1.0 ∙ n))
 
-  pub column-right : (w : ℕ) → r ≡ Word w → (j ≡ 0 → ⊥) → column_refusal i l j ≡ none
+  pub column-right : (w : ℕ) → Some w ≡ found (number_in (column_of j l)) → (j ≡ 0 → ⊥) → column_refusal i l j ≡ none
   column-right w e z = let g = number_word w e in ap (number_refusal i j) g.1.0 ∙ other-column i j g.0 z
+
+-- the columns of a line that is whole, from column j on
+pub record Columns (bytes : List ℕ) (line column : ℕ) : Type 0 where
+  pub most : column ≤ 4
+  pub room : 41 ≤ length bytes
+  pub left : line_refusal line (first_line bytes) ≡ columns_left line bytes column (4 - column)
+
+pub columns_start : (bytes : List ℕ) (line : ℕ) → line < 512 → whole (first_line bytes) ≡ true → Columns bytes line 0
+columns_start bytes line h w =
+    let p = whole-line bytes 0 w in
+    record {
+      most = omega arith;
+      room = p.0;
+      left = line-columns line (first_line bytes) h w ∙ ap (λ l. columns_left line l 0 4) p.1.0 ∙ columns_of_line line bytes 0 4 (omega arith);
+    }
+
+module _ (bytes : List ℕ) (line column : ℕ) (p : Columns bytes line column) where
+  next-column : column < 4 → columns_left line bytes column (4 - column) ≡ column_refusal line bytes column or columns_left line bytes (suc column) (4 - (column + 1))
+  next-column h = let e : 4 - column ≡ suc (4 - (column + 1)) = omega arith in rw e
+
+  pub column_passed : column < 4 → column_refusal line bytes column ≡ none → Columns bytes line (column + 1)
+  column_passed h e = record { most = omega arith; room = p.room; left = p.left ∙ next-column h ∙ rw (e, add-one column) }
+
+  pub column-refused : (a : Answer) → column < 4 → column_refusal line bytes column ≡ some a → some a ≡ line_refusal line (first_line bytes)
+  column-refused a h e = sym (p.left ∙ next-column h ∙ rw e)
+
+  pub columns_end : 4 ≤ column → none ≡ line_refusal line (first_line bytes)
+  columns_end h = let z : 4 - column ≡ 0 = omega arith in sym (p.left ∙ rw z)
+
+pub not_whole : (bytes : List ℕ) (line : ℕ) → line < 512 → whole (first_line bytes) ≡ false → some (refused_at 1 line) ≡ line_refusal line (first_line bytes)
+unfolding line_refusal
+not_whole bytes line h w = rw (lt-leb 512 line h, w)
+
+-- the first line of the first 41 bytes is judged as the first line of all
+pub line_cut : (i : ℕ) (s : List ℕ) → line_refusal i (first_line (take 41 s)) ≡ line_refusal i (first_line s)
+unfolding line_refusal
+line_cut i s = go (whole (first_line s)) refl
+  where
+    go : (b : Bool) → whole (first_line s) ≡ b → line_refusal i (first_line (take 41 s)) ≡ line_refusal i (first_line s)
+    go true w = ap (line_refusal i) (first_prefix 41 s ∙ take_all 41 (first_line s) (omega (arith, whole-first s 0 w)))
+    go false w = let v : whole (first_line (take 41 s)) ≡ false = whole_cut s ∙ w in rw (v, w)

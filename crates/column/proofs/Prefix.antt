@@ -7,35 +7,22 @@ use mathlib.Core.Option.{Option, none, some}
 use native.Mathlib.Decide.{dec_le}
 use native.Mathlib.Omega.{arith}
 use borrow.Author.Tests.{ne_eqb}
-use lib.Dec.{eqb}
 use lib.ListN.{length, take, drop, length-take, length-append, length-replicate}
 use lib.Seq.{take_all, take-nil, take-take, take-append-le}
 use Rattle.refusal.specs.Answer.{Answer}
-use Rattle.word.specs.Choice.{pick}
 use Rattle.word.specs.Tick.{Words, zeros}
 use Rattle.word.proofs.Each.{words-zeros}
 use Rattle.column.specs.Checks.{◌or◌}
-use Rattle.number.specs.Row.{line_feed}
 use Rattle.column.specs.Line.{lines, whole, line_refusal}
 use Rattle.column.specs.File.{lines_refusal, file_refusal, reading, lines_from}
 use Rattle.column.specs.Laws.{PrefixDecides, PrefixReads}
 use Rattle.column.specs.Promises.{first_line}
-use Rattle.column.proofs.Lines.{not-whole}
+use Rattle.column.proofs.Lines.{first_prefix, not-whole}
 use Rattle.column.proofs.Judged.{drop-take, whole-line, one_line_more, line_not_whole}
 use Rattle.column.proofs.Checking.{checking_starts, file_judged}
 use Rattle.column.proofs.Storing.{file_right}
 use Rattle.column.proofs.FileText.{lines_join, lines-few, lines-bytes, texts_lines, texts_length, texts_right}
 use Rattle.column.proofs.Writes.{lines-length}
-
--- the first line of a beginning
-first_prefix : (k : ℕ) (file : List ℕ) → first_line (take k file) ≡ take k (first_line file)
-first_prefix zero file = refl
-first_prefix (suc k) [] = refl
-first_prefix (suc k) (b ∷ bs) = go (eqb b line_feed) (first_prefix k bs)
-  where
-    go : (t : Bool) → first_line (take k bs) ≡ take k (first_line bs) → pick t (b ∷ []) (b ∷ first_line (take k bs)) ≡ take (suc k) (pick t (b ∷ []) (b ∷ first_line bs))
-    go true e = rw (take-nil {A = ℕ} k)
-    go false e = ap {B = List ℕ} (λ l. b ∷ l) e
 
 -- a line that is cut behind its 41st byte has more than 41 bytes before and after
 whole_prefix : (k : ℕ) (l : List ℕ) → 41 < k → whole (take k l) ≡ whole l
@@ -77,7 +64,7 @@ prefix_lines (suc n) i k file e h =
     where_some i k file (by_first_line i k file (omega arith) (omega arith) (prefix_lines n (suc i) (k - 41) (drop 41 file) (omega arith) (omega arith)))
 
 judged : (file : List ℕ) → 0 < length file → file_refusal file ≡ lines_refusal 0 (lines file)
-judged file h = file_judged file 0 0 (λ e. omega arith) (checking_starts file)
+judged file h = file_judged file file 0 (λ e. omega arith) (checking_starts file)
 
 pub refused-alike : (k : ℕ) (file : List ℕ) → 20993 ≤ k → file_refusal (take k file) ≡ file_refusal file
 refused-alike k [] h = ap file_refusal (take-nil {A = ℕ} k)

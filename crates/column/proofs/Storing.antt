@@ -12,10 +12,8 @@ use lib.Dec.{eqb, leb}
 use lib.ListN.{length, set, take, drop}
 use lib.Seq.{sets, length-sets}
 use Rattle.refusal.specs.declared.Refusal.{Refusal}
+use Rattle.std.specs.Prelude.{Result, Ok, Err}
 use Rattle.refusal.specs.Answer.{Answer, count, refusal_of, refused_at, refused_all}
-use Rattle.column.specs.declared.ReadAnswer.{ReadAnswer}
-use Rattle.column.specs.declared.ReadAnswer.TheVariants.{Nodes, Refused}
-use Rattle.column.specs.Answers.{readAnswer}
 use Rattle.column.specs.Promises.{LinesChecked, refusal_in, first_line}
 use Rattle.column.specs.Checks.{when, ◌or◌}
 use Rattle.refusal.specs.Outcome.{outcome}
@@ -151,12 +149,12 @@ storing_ends file table₀ nodes table node h n l p =
     ap (λ (ls : List (List ℕ)). sets table (3 * node) (table_of ls)) (sym z) ∙ p.done ∙ sets-front (table_of (lines file)) table₀ (omega arith) ∙ rw k
 
 -- the whole call, by what the check of the lines answered
-module _ (file table : List ℕ) (a : ReadAnswer) (p : LinesChecked file a) where
-  pub read-refused : (r : Refusal) → a ≡ Refused r → outcome (readAnswer a) table ≡ reading file table
+module _ (file table : List ℕ) (a : Result ℕ Refusal) (p : LinesChecked file a) where
+  pub read-refused : (r : Refusal) → a ≡ Err r → outcome (refusal_of r) table ≡ reading file table
   unfolding reading
-  read-refused r e = let f : some (refusal_of r) ≡ file_refusal file = ap refusal_in (sym e) ∙ p.refusal in rw (e, ← f)
+  read-refused r e = let f : some (refusal_of r) ≡ file_refusal file = ap refusal_in (sym e) ∙ p.refusal in rw (← f)
 
-  module _ (n : ℕ) (e : a ≡ Nodes n) where
+  module _ (n : ℕ) (e : a ≡ Ok n) where
     pub lines-right : file_refusal file ≡ none
     lines-right = sym p.refusal ∙ ap refusal_in e
 

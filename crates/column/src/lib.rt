@@ -6,7 +6,6 @@ mod writer;
 
 use number::COLUMN;
 pub use reader::read;
-use refusal::Refusal;
 use word::limits::NODES;
 pub use writer::write;
 
@@ -17,17 +16,3 @@ const LINE_BYTES: usize = NODE_COLUMN + 3 * COLUMN + 1;
 
 // The bytes of a file that are enough: the lines of the largest, and a byte of one too many.
 pub const ENOUGH_BYTES: usize = LINE_BYTES * NODES + 1;
-
-// What the reader answers: the count of nodes, or a refusal.
-#[derive(Drop)]
-pub enum ReadAnswer {
-    Nodes(u32),
-    Refused(Refusal),
-}
-
-// What the writer answers: the count of bytes, or a refusal.
-#[derive(Drop)]
-pub enum WriteAnswer {
-    Bytes(u32),
-    Refused(Refusal),
-}

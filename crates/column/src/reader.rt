@@ -1,110 +1,100 @@
 // The reader: every line is checked before any number is stored.
-ghost use Rattle.std.specs.Prelude.{◌≡◌, ◌+◌, ◌-◌, ◌*◌, ◌≤◌, ◌<◌, ◌++◌, length, drop};
+ghost use Rattle.std.specs.Prelude.{◌≡◌, ◌*◌, ◌+◌, ◌≤◌, ◌<◌, ◌++◌, length, drop};
 ghost use Rattle.std.proofs.Math.Option.{none};
 ghost use Rattle.std.proofs.lemmas.List.Edits.{sets};
+ghost use Rattle.word.specs.Limits.{most_nodes};
 ghost use Rattle.number.specs.Number.{number_in, word_of};
-ghost use Rattle.column.specs.Line.{line_bytes, column_of, whole, lines, entries};
+ghost use Rattle.column.specs.Line.{line_bytes, column_of, whole, lines, line_refusal, entries};
 ghost use Rattle.column.specs.File.{file_refusal, table_of, reading};
-ghost use Rattle.column.specs.Answers.{readAnswer};
-ghost use Rattle.column.specs.Promises.{LinesChecked, first_line};
+ghost use Rattle.column.specs.Promises.{FirstFeed, LinesChecked, first_line, refusal_in};
 ghost use Rattle.number.specs.Promises.{found};
+ghost use Rattle.refusal.specs.Answer.{answer_of};
 ghost use Rattle.refusal.specs.Outcome.{outcome};
 
-use crate::{LINE_BYTES, NODE_COLUMN, ReadAnswer};
-use number::{COLUMN, Number, read_number};
+use crate::{LINE_BYTES, NODE_COLUMN};
+use number::{COLUMN, read_number};
 use refusal::Refusal;
+use word::index;
 use word::limits::MOST_NODES;
 
-// Whether the line that begins at `at` has 41 bytes, the last its line feed. However long the line is, only these are looked at.
-fn is_whole(file: &[u8], at: usize) -> bool
-    requires { at ≤ length file.now }
-    ensures { result ≡ whole (first_line (drop at file.now)) }
+// Where the first line feed stands.
+fn feed(bytes: &[u8]) -> Option<usize>
+    ensures { FirstFeed bytes.now result }
 {
-    if file.len() - at < LINE_BYTES {
-        return false;
-    }
-    let last = at + 40;
-    let mut end: usize = at;
-    while end < last {
-        if file[end] == b'\n' {
-            return false;
-        }
-        end += 1;
-    }
-    file[last] == b'\n'
+    bytes.iter().position(|byte| *byte == b'\n')
 }
 
-// Column j of the line that begins at `at`.
-fn column_at(file: &[u8], at: usize, j: usize) -> Number
-    requires { (at + line_bytes ≤ length file.now) × (j < 4) }
-    ensures { result ≡ found (number_in (column_of j (drop at file.now))) }
+// Whether the line that begins these bytes has 41, the last its line feed. However long the line is, only these are looked at.
+fn is_whole(bytes: &[u8]) -> bool
+    ensures { result ≡ whole (first_line bytes.now) }
+{
+    feed(bytes) == Some(LINE_BYTES - 1)
+}
+
+// Column j of a line.
+fn column_at(line: &[u8], j: usize) -> Option<u32>
+    requires { (line_bytes ≤ length line.now) × (j < 4) }
+    ensures { result ≡ found (number_in (column_of j line.now)) }
 {
     if j == 0 {
-        let end = at + NODE_COLUMN;
-        return read_number(&file[at..end]);
+        return read_number(&line[..NODE_COLUMN]);
     }
-    let from = at + NODE_COLUMN + COLUMN * (j - 1);
+    let from = NODE_COLUMN + COLUMN * (j - 1);
     let end = from + COLUMN;
-    read_number(&file[from..end])
+    read_number(&line[from..end])
 }
 
-// Checks line after line, and in a line column after column, up to the first that is wrong.
-fn check_lines(file: &[u8]) -> ReadAnswer
+// Checks the line that begins these bytes: its length, then column after column, up to the first that is wrong.
+fn check_line(bytes: &[u8], line: u32) -> Result<(), Refusal>
+    requires { line < most_nodes }
+    ensures { refusal_in result ≡ line_refusal line (first_line bytes.now) }
+{
+    if !is_whole(bytes) {
+        return Err(Refusal::MalformedLine(line));
+    }
+    for column in 0..4 {
+        let word = column_at(bytes, column).ok_or(Refusal::MalformedLine(line))?;
+        if column == 0 && word != line {
+            return Err(Refusal::WrongNodeNumber(line));
+        }
+    }
+    Ok(())
+}
+
+// Checks line after line, up to the first that is wrong; gives how many there are.
+fn check_lines(file: &[u8]) -> Result<u32, Refusal>
     ensures { LinesChecked file.now result }
 {
-    if file.len() == 0 {
-        return ReadAnswer::Refused(Refusal::WrongNodeCount(0));
+    if file.is_empty() {
+        return Err(Refusal::WrongNodeCount(0));
     }
-    let mut at: usize = 0;
     let mut line: u32 = 0;
-    'lines: loop {
-        if at == file.len() {
-            break 'lines ReadAnswer::Nodes(line);
-        }
+    for bytes in file.chunks(LINE_BYTES) {
         if line == MOST_NODES {
-            break 'lines ReadAnswer::Refused(Refusal::WrongNodeCount(MOST_NODES));
+            return Err(Refusal::WrongNodeCount(MOST_NODES));
         }
-        if !is_whole(file, at) {
-            break 'lines ReadAnswer::Refused(Refusal::MalformedLine(line));
-        }
-        let mut column: usize = 0;
-        while column < 4 {
-            let read = column_at(file, at, column);
-            let Number::Word(word) = read else {
-                break 'lines ReadAnswer::Refused(Refusal::MalformedLine(line));
-            };
-            if column == 0 {
-                if word != line {
-                    break 'lines ReadAnswer::Refused(Refusal::WrongNodeNumber(line));
-                }
-            }
-            column += 1;
-        }
-        at += LINE_BYTES;
+        check_line(bytes, line)?;
         line += 1;
     }
+    Ok(line)
 }
 
 // The word of a column's number.
-fn word_at(file: &[u8], at: usize, j: usize) -> u32
-    requires { (at + line_bytes ≤ length file.now) × (j < 4) }
-    ensures { result ≡ word_of (number_in (column_of j (drop at file.now))) }
+fn word_at(line: &[u8], j: usize) -> u32
+    requires { (line_bytes ≤ length line.now) × (j < 4) }
+    ensures { result ≡ word_of (number_in (column_of j line.now)) }
 {
-    let read = column_at(file, at, j);
-    match read {
-        Number::Word(word) => word,
-        Number::Malformed => 0,
-    }
+    column_at(line, j).unwrap_or(0)
 }
 
-// The three numbers of the line that begins at `at` become node `node` of the table.
-fn store_node(file: &[u8], at: usize, table: &mut [u32], node: usize)
-    requires { (at + line_bytes ≤ length file.now) × (3 * node + 3 ≤ length table.old) }
-    ensures { table.new ≡ sets table.old (3 * node) (entries (drop at file.now)) }
+// The three numbers of a line become node `node` of the table.
+fn store_node(line: &[u8], table: &mut [u32], node: usize)
+    requires { (line_bytes ≤ length line.now) × (3 * node + 3 ≤ length table.old) }
+    ensures { table.new ≡ sets table.old (3 * node) (entries line.now) }
 {
-    table[3 * node] = word_at(file, at, 1);
-    table[3 * node + 1] = word_at(file, at, 2);
-    table[3 * node + 2] = word_at(file, at, 3);
+    table[3 * node] = word_at(line, 1);
+    table[3 * node + 1] = word_at(line, 2);
+    table[3 * node + 2] = word_at(line, 3);
 }
 
 // The numbers of a file that is right become the first of the table.
@@ -113,25 +103,20 @@ fn store(file: &[u8], table: &mut [u32], nodes: usize)
     requires nodes_value { (nodes ≡ length (lines file.now)) × (3 * nodes ≤ length table.old) }
     ensures { table.new ≡ table_of (lines file.now) ++ drop (3 * nodes) table.old }
 {
-    let mut node: usize = 0;
-    while node < nodes {
-        store_node(file, LINE_BYTES * node, table, node);
-        node += 1;
+    for node in 0..nodes {
+        store_node(&file[LINE_BYTES * node..], table, node);
     }
 }
 
-// Reads a column file into the table: 3, 1 and 2 line by line, then 12.
-pub fn read(file: &[u8], table: &mut [u32]) -> ReadAnswer
-    ensures { outcome (readAnswer result) table.new ≡ reading file.now table.old }
+// Reads a column file into the table: 3, 1 and 2 line by line, then 12. Gives the count of nodes.
+pub fn read(file: &[u8], table: &mut [u32]) -> Result<u32, Refusal>
+    ensures { outcome (answer_of result) table.new ≡ reading file.now table.old }
 {
-    let checked = check_lines(file);
-    let ReadAnswer::Nodes(count) = checked else {
-        return checked;
-    };
-    let nodes = count as usize;
+    let count = check_lines(file)?;
+    let nodes = index(count);
     if table.len() < 3 * nodes {
-        return ReadAnswer::Refused(Refusal::ShortBuffer);
+        return Err(Refusal::ShortBuffer);
     }
     store(file, table, nodes);
-    checked
+    Ok(count)
 }

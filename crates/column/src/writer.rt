@@ -3,10 +3,10 @@ ghost use Rattle.std.specs.Prelude.{◌≡◌, ◌+◌, ◌*◌, ◌≤◌, ◌<
 ghost use Rattle.word.specs.Limits.{most_nodes};
 ghost use Rattle.column.specs.Line.{line_bytes};
 ghost use Rattle.column.specs.File.{line_of, lines_from, writing};
-ghost use Rattle.column.specs.Answers.{writeAnswer};
+ghost use Rattle.refusal.specs.Answer.{answer_of};
 ghost use Rattle.refusal.specs.Outcome.{outcome};
 
-use crate::{LINE_BYTES, NODE_COLUMN, WriteAnswer};
+use crate::{LINE_BYTES, NODE_COLUMN};
 use number::{put_number, put_row};
 use refusal::Refusal;
 use word::limits::{MOST_NODES, NODES};
@@ -27,34 +27,29 @@ fn put_lines(table: &[u32], nodes: usize, file: &mut [u8])
     requires { (3 * nodes ≤ length table.now) × ((nodes ≤ most_nodes) × (line_bytes * nodes ≤ length file.old)) }
     ensures { file.new ≡ lines_from table.now 0 nodes ++ drop (line_bytes * nodes) file.old }
 {
-    let mut node: usize = 0;
-    while node < nodes {
+    for node in 0..nodes {
         let begin = LINE_BYTES * node;
         let end = begin + LINE_BYTES;
         put_line(table, node, &mut file[begin..end]);
-        node += 1;
     }
 }
 
-// Writes a table as a column file: 3, then 12.
-pub fn write(table: &[u32], file: &mut [u8]) -> WriteAnswer
-    ensures { outcome (writeAnswer result) file.new ≡ writing table.now file.old }
+// Writes a table as a column file: 3, then 12. Gives the count of bytes.
+pub fn write(table: &[u32], file: &mut [u8]) -> Result<u32, Refusal>
+    ensures { outcome (answer_of result) file.new ≡ writing table.now file.old }
 {
     let numbers = table.len();
-    if numbers == 0 {
-        return WriteAnswer::Refused(Refusal::WrongNodeCount(0));
-    }
-    if numbers % 3 != 0 {
-        return WriteAnswer::Refused(Refusal::WrongNodeCount(0));
+    if numbers == 0 || numbers % 3 != 0 {
+        return Err(Refusal::WrongNodeCount(0));
     }
     let nodes = numbers / 3;
     if nodes > NODES {
-        return WriteAnswer::Refused(Refusal::WrongNodeCount(MOST_NODES));
+        return Err(Refusal::WrongNodeCount(MOST_NODES));
     }
     let needed = LINE_BYTES * nodes;
     if file.len() < needed {
-        return WriteAnswer::Refused(Refusal::ShortBuffer);
+        return Err(Refusal::ShortBuffer);
     }
     put_lines(table, nodes, file);
-    WriteAnswer::Bytes(needed as u32)
+    Ok(needed as u32)
 }

@@ -4,21 +4,19 @@ use native.Mathlib.Nat.{min-le_left}
 use Rattle.word.specs.Tick.{Words}
 use Rattle.number.specs.Row.{line_feed}
 use Rattle.flat.proofs.Decoded.{code-header}
-use Rattle.translator.specs.declared.TranslateAnswer.{TranslateAnswer}
-use Rattle.translator.specs.declared.TranslateAnswer.TheVariants.{Numbers}
+use Rattle.std.specs.Prelude.{Result, Ok}
+use Rattle.refusal.specs.declared.Refusal.{Refusal}
+use Rattle.refusal.specs.Answer.{answer_of}
 use Rattle.refusal.specs.Outcome.{outcome}
-use Rattle.translator.specs.Translate.{answer_of, translated_table}
+use Rattle.translator.specs.Translate.{translated_table}
 use Rattle.listing.proofs.Tables.{is_within, code_passes}
 use Rattle.player.specs.Samples.{circuit_part, samples_part}
 use Rattle.player.proofs.Parts.{input_parts}
 use Rattle.console.specs.Coded.{Coded}
 
-pub coded : (table code : List ℕ) {a : TranslateAnswer} {code' : List ℕ} → outcome (answer_of a) code' ≡ translated_table table code → (n : ℕ) → a ≡ Numbers n → Words table → length code' ≡ length code → (r : ℕ) → r ≡ n → Coded code' r
+pub coded : (table code : List ℕ) {a : Result ℕ Refusal} {code' : List ℕ} → outcome (answer_of a) code' ≡ translated_table table code → (n : ℕ) → a ≡ Ok n → Words table → length code' ≡ length code → (r : ℕ) → r ≡ n → Coded code' r
 coded table code {a} {code'} t n e w l r f =
-    rw f (record { within = omega (arith, is_within table code t n e); head = λ h. code-header (take n code') (code_passes table code t n e w) })
-
-pub uncoded : (code : List ℕ) → Coded code 0
-uncoded code = record { within = omega arith; head = λ h. absurd (omega arith) }
+    rw f (record { within = omega (arith, is_within table code t n e); head = code-header (take n code') (code_passes table code t n e w) })
 
 -- what lies within the bytes from `at` to `end` ends there at the latest
 pub part_ends : (buffer : List ℕ) (at end : ℕ) {count : ℕ} → at ≤ end → count ≤ length (take (end - at) (drop at buffer)) → at + count ≤ end

@@ -1,6 +1,6 @@
 // The part of an input that a buffer holds: read on as it is played. A read that fails is the caller's to answer: it has
 // taken nothing from the input, and the bytes that the buffer holds are as they were.
-ghost use Rattle.std.specs.Prelude.{◌≡◌, ℕ, ◌-◌, ◌<◌, ◌≤◌, [], length, take, drop, IfOk, OnErr};
+ghost use Rattle.std.specs.Prelude.{◌≡◌, ℕ, ◌-◌, ◌<◌, ◌≤◌, length, take, drop, IfSome, IfOk, OnErr};
 ghost use Rattle.std.specs.Io.KnownBytes.{Consumes, IsAtEnd, Keeps};
 ghost use Rattle.console.specs.Held.{Stands, Grown, Moved};
 
@@ -9,14 +9,13 @@ use std::io;
 use std::io::{Read, Write};
 
 // What is to be played: the bytes of the buffer from `at` to `end`, whose first line has this number in the input, modulo
-// 2^64. The input may give more as long as it is open; nothing is left to do when it is over.
+// 2^64. The input may give more as long as it is open.
 #[derive(Clone, Copy)]
 pub struct Rest {
     pub at: usize,
     pub end: usize,
     pub line: u64,
     pub open: bool,
-    pub over: bool,
 }
 
 // One read into the free part of the buffer; gives where the bytes that it holds end.
@@ -42,6 +41,7 @@ pub fn read_full<R: Read>(from: &mut R, buffer: &mut [u8]) -> io::Result<usize>
         × Consumes (R.remaining from.old) (R.remaining from.new) (take n buffer.new)) }
 {
     let mut end: usize = 0;
+    // no `for`: each read says how many bytes it gave
     while end < buffer.len() {
         let next = read_more(from, buffer, end)?;
         if next == end {
@@ -57,65 +57,46 @@ fn move_front(buffer: &mut [u8], at: usize, end: usize) -> usize
     requires { (at ≤ end) × (end ≤ length buffer.old) }
     ensures { Moved buffer.old at end result buffer.new }
 {
-    let count = end - at;
     if at == 0 {
-        return count;
+        return end;
     }
-    let mut i: usize = 0;
-    while i < count {
-        buffer[i] = buffer[at + i];
-        i += 1;
-    }
-    count
-}
-
-// The end of what is played.
-pub fn over(line: u64) -> Rest
-    ensures { Stands result [] }
-{
-    Rest {
-        at: 0,
-        end: 0,
-        line: line,
-        open: false,
-        over: true,
-    }
+    buffer.copy_within(at..end, 0);
+    end - at
 }
 
 // The input has ended: its last line, if it has no line feed, gets one.
-fn end_line(buffer: &mut [u8], held: usize, line: u64) -> Rest
+fn end_line(buffer: &mut [u8], held: usize, line: u64) -> Option<Rest>
     requires { held < length buffer.old }
-    ensures { Stands result buffer.new }
+    ensures { IfSome result (λ r. Stands r buffer.new) }
 {
     if held == 0 {
-        return over(line);
+        return None;
     }
     buffer[held] = b'\n';
-    Rest {
+    Some(Rest {
         at: 0,
         end: held + 1,
-        line: line,
+        line,
         open: false,
-        over: false,
-    }
+    })
 }
 
-// No whole line is left: what there is of one goes to the front, and the input is read on. A line that fills the buffer
-// without its line feed is malformed.
+// No whole line is left: what there is of one goes to the front, and the input is read on, unless it is over. A line that
+// fills the buffer without its line feed is malformed.
 pub fn read_on<R: Read, W: Write>(
     from: &mut R,
     out: &mut W,
     buffer: &mut [u8],
     rest: Rest,
-) -> io::Result<Rest>
+) -> io::Result<Option<Rest>>
     requires { Stands rest buffer.old }
-    ensures { IfOk result (λ r. Stands r buffer.new) }
+    ensures { IfOk result (λ next. IfSome next (λ r. Stands r buffer.new)) }
 {
     let line = rest.line;
     let held = move_front(buffer, rest.at, rest.end);
     if held == buffer.len() {
         print_malformed(out, line)?;
-        return Ok(over(line));
+        return Ok(None);
     }
     if !rest.open {
         return Ok(end_line(buffer, held, line));
@@ -124,11 +105,10 @@ pub fn read_on<R: Read, W: Write>(
     if end == held {
         return Ok(end_line(buffer, held, line));
     }
-    Ok(Rest {
+    Ok(Some(Rest {
         at: 0,
-        end: end,
-        line: line,
+        end,
+        line,
         open: true,
-        over: false,
-    })
+    }))
 }

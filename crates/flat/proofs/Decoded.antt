@@ -1,17 +1,18 @@
 -- A code that is read number by number: what its check says of the header, of one instruction after another, and of the output registers.
-use Prim.Native.Nat.{ℕ, suc, ◌+◌, ◌-◌, ◌≤◌, ◌<◌}
+use Prim.Native.Nat.{ℕ, zero, suc, ◌+◌, ◌-◌, ◌≤◌, ◌<◌}
 use mathlib.Core.Path.{◌≡◌, refl, sym, ap, ◌∙◌}
 use mathlib.Core.Bool.{Bool, true, false}
-use mathlib.Core.List.{List, ◌∷◌}
+use mathlib.Core.List.{List, [], ◌∷◌}
 use native.Mathlib.Nat.{add-zero}
 use native.Mathlib.Numerals.{add-one}
 use native.Mathlib.Omega.{arith}
-use borrow.Author.Tests.{leb-true, eqb-true, ne_eqb}
+use borrow.Author.Tests.{leb-true, eqb-true, ne_eqb, ltb-true, lt-ltb}
 use lib.Dec.{eqb, leb, ltb}
 use lib.ListN.{length, get_or, take, drop, length-drop}
 use lib.Seq.{get_or-drop, drop-drop, take_all, drop-cons}
 use Rattle.word.specs.Choice.{◌and◌}
-use Rattle.word.proofs.Lists.{first-true, second-true}
+use Rattle.std.proofs.Common.{◌≢◌, ◌↔◌, IsTrue, EachIndex}
+use Rattle.word.proofs.Lists.{first-true, second-true, both_true}
 use Rattle.flat.specs.Flat.{Instruction, width}
 use Rattle.flat.specs.Code.{header, results_at, instruction_at, instructions_of, input_count, output_count, instruction_count, cell_count, decode}
 use Rattle.flat.specs.Steps.{Header}
@@ -95,6 +96,24 @@ module _ {cells end : ℕ} {xs : List ℕ} {all : Bool} {own p : ℕ} (k : Check
 pub below_step : (end i : ℕ) (xs : List ℕ) → i < length xs → all_below end (drop i xs) ≡ ltb (get_or xs i 0) end and all_below end (drop (i + 1) xs)
 below_step end i xs h = rw (drop-cons xs i 0 h, add-one)
 
+-- all are below r exactly when each is
+all-index : (r : ℕ) (xs : List ℕ) → all_below r xs ≡ true → EachIndex xs (λ k. get_or xs k 0 < r)
+all-index r (x ∷ xs) h zero i = ltb-true x r (first-true (ltb x r) (all_below r xs) h)
+all-index r (x ∷ xs) h (suc k) i = all-index r xs (second-true (ltb x r) (all_below r xs) h) k (omega arith)
+all-index r [] h k i = absurd (omega arith)
+
+index_all : (r : ℕ) (xs : List ℕ) → EachIndex xs (λ k. get_or xs k 0 < r) → all_below r xs ≡ true
+index_all r [] h = refl
+index_all r (x ∷ xs) h = both_true (ltb x r) (all_below r xs) (lt-ltb x r (h 0 (omega arith))) (index_all r xs (λ k i. h (suc k) (omega arith)))
+
+pub below_all : (r : ℕ) (xs : List ℕ) (b : Bool) → (IsTrue b ↔ EachIndex xs (λ k. get_or xs k 0 < r)) → b ≡ all_below r xs
+below_all r xs true h = sym (index_all r xs (h.0 refl))
+below_all r xs false h = go (all_below r xs) refl
+  where
+    go : (b : Bool) → all_below r xs ≡ b → false ≡ b
+    go true e = h.1 (all-index r xs e)
+    go false e = refl
+
 -- the check opened: the instructions, and all that is left behind them
 pub body_opened : (xs : List ℕ) → Header xs → body_ok (input_count xs + instruction_count xs) (decode xs)
     ≡ instructions_ok (cell_count xs) (input_count xs + instruction_count xs) (input_count xs) (instructions_of (instruction_count xs) (drop header xs))
@@ -121,3 +140,7 @@ module _ (xs : List ℕ) (ok : code_ok xs ≡ true) where
   pub code-results : all_below (input_count xs + instruction_count xs) (drop (results_at (instruction_count xs)) xs) ≡ true
   code-results =
       second-true (instructions_ok (cell_count xs) (input_count xs + instruction_count xs) (input_count xs) (instructions_of (instruction_count xs) (drop header xs))) _ body-true
+
+-- a number that is none of the numbers of a table's names
+pub unnumbered : {A : Type 0} (number_of : A → ℕ) (n : ℕ) → ((a : A) → number_of a ≢ n) → (a : A) → eqb n (number_of a) ≡ false
+unnumbered number_of n h a = ne_eqb n (number_of a) (λ e. h a (sym e))

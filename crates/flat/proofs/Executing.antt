@@ -10,6 +10,8 @@ use lib.Seq.{drop-drop, take-suc-set, take_at, length-take-le}
 use Rattle.word.specs.Choice.{◌or◌}
 use Rattle.word.specs.Tick.{zeros}
 use Rattle.word.proofs.Lists.{first-true, second-true, or_first, or_assoc}
+use Rattle.flat.specs.declared.keys.Key.{Key}
+use Rattle.flat.specs.declared.keys.Key.TheVariants.{Skip}
 use Rattle.flat.specs.Flat.{Instruction, width, Machine, machine, effect, worked, execute, worked_clips, execute_clips}
 use Rattle.flat.specs.Code.{header, instruction_at, instructions_of, input_count, instruction_count}
 use Rattle.flat.specs.Check.{instruction_ok, instructions_ok}
@@ -60,7 +62,7 @@ filled ρ ys zs from to s e h q =
     nothing n l e = drop_of_length-le l {i = n} (omega arith)
 
 -- one step: the instruction, its own register, and zeros for those that it skips
-module _ {key : ℕ} {x : Instruction} {controls : List ℕ} {own : ℕ} {ρ cs : List ℕ} (w : Steppable key x controls own ρ cs) where
+module _ {key : Key} {x : Instruction} {controls : List ℕ} {own : ℕ} {ρ cs : List ℕ} (w : Steppable key x controls own ρ cs) where
   pub steppable_works : Workable key x controls ρ cs
   steppable_works = record { keyed = w.keyed; end = w.end; own = own; ok = w.ok; room = omega (arith, w.inside, w.room); sixteen = w.sixteen }
 
@@ -89,7 +91,7 @@ module _ {key : ℕ} {x : Instruction} {controls : List ℕ} {own : ℕ} {ρ cs 
         }
 
 -- what is left to do at register r, where the instructions stand from p on, told so far of a clipped delay or not
-pub record Going (code keys controls : List ℕ) (target : Machine) (all : Bool) (end p r : ℕ) (told : Bool) (ρ cs : List ℕ) : Type 0 where
+pub record Going (code : List ℕ) (keys : List Key) (controls : List ℕ) (target : Machine) (all : Bool) (end p r : ℕ) (told : Bool) (ρ cs : List ℕ) : Type 0 where
   pub low : r ≤ end
   pub keyed : Keys code keys end p r
   pub place : p + width * (end - r) ≤ length code
@@ -99,7 +101,7 @@ pub record Going (code keys controls : List ℕ) (target : Machine) (all : Bool)
   pub same : execute controls (instructions_of (end - r) (drop p code)) (machine (take r ρ) 0 cs) ≡ target
   pub clips : told or execute_clips controls (instructions_of (end - r) (drop p code)) (machine (take r ρ) 0 cs) ≡ all
 
-module _ {code keys controls : List ℕ} {target : Machine} {all : Bool} {end p r : ℕ} {told : Bool} {ρ cs : List ℕ} (g : Going code keys controls target all end p r told ρ cs) where
+module _ {code : List ℕ} {keys : List Key} {controls : List ℕ} {target : Machine} {all : Bool} {end p r : ℕ} {told : Bool} {ρ cs : List ℕ} (g : Going code keys controls target all end p r told ρ cs) where
   pub arrived : end ≤ r → target ≡ machine (take end ρ) 0 cs
   arrived h =
       let e : r ≡ end = omega (arith, g.low) in
@@ -118,7 +120,7 @@ module _ {code keys controls : List ℕ} {target : Machine} {all : Bool} {end p 
     rest_ok : instructions_ok (length cs) end (r + 1) (instructions_of (end - (r + 1)) (drop (p + width) code)) ≡ true
     rest_ok = second-true (instruction_ok (length cs) end r (instruction_at code p)) _ (sym (ok_step (length cs) end r p code h) ∙ g.ok)
 
-    pub steppable : Steppable (get_or keys r 0) x controls r ρ cs
+    pub steppable : Steppable (get_or keys r Skip) x controls r ρ cs
     steppable = record { keyed = key_here g.keyed h i; end = end; ok = here-ok; inside = h; room = g.room; sixteen = g.sixteen }
 
     module _ {s : ℕ} {ρ₂ cs₁ : List ℕ} (a : Advanced x controls r ρ cs s ρ₂ cs₁) where
@@ -175,7 +177,7 @@ module _ {code keys controls : List ℕ} {target : Machine} {all : Bool} {end p 
       go_on {told₁ = told₁} t lr lc eq eo = subst₂ (λ (q o : ℕ). Going code keys controls target all end q o told₁ ρ₂ cs₁) eq eo (behind t lr lc)
 
 -- the first instruction
-pub begin : (code keys controls ρ cs : List ℕ) (n c : ℕ) → n ≡ input_count code → c ≡ instruction_count code → Ready code keys controls ρ cs
+pub begin : (code : List ℕ) (keys : List Key) (controls ρ cs : List ℕ) (n c : ℕ) → n ≡ input_count code → c ≡ instruction_count code → Ready code keys controls ρ cs
     → Going code keys controls (execute controls (instructions_of (instruction_count code) (drop header code)) (machine (take (input_count code) ρ) 0 cs))
     (execute_clips controls (instructions_of (instruction_count code) (drop header code)) (machine (take (input_count code) ρ) 0 cs)) (n + c) header n false ρ cs
 begin code keys controls ρ cs n c en ec r =

@@ -4,19 +4,21 @@ use mathlib.Core.Path.{◌≡◌, refl, sym, ap, ◌∙◌, subst}
 use mathlib.Core.Bool.{Bool, true, false, false≢true}
 use mathlib.Core.List.{List, [], ◌∷◌}
 use native.Mathlib.Omega.{arith}
-use borrow.Author.Tests.{leb-true, eqb-true, ltb-true, ltb-false, lt-ltb, le-ltb}
+use borrow.Author.Tests.{leb-true, eqb-true, eqb-false, ltb-true, ltb-false, le-ltb}
 use lib.Dec.{eqb, leb, ltb}
 use lib.ListN.{length, get_or, take}
 use lib.Seq.{get_or-take}
 use Rattle.word.specs.Choice.{◌and◌, ◌or◌, pick}
 use Rattle.word.specs.Word.{clipped}
-use Rattle.word.specs.Operation.{operate, operand_table, operands, demand}
+use Rattle.word.specs.Operation.{operate, operands, demand}
 use Rattle.word.specs.Tick.{Each}
 use Rattle.word.proofs.Lists.{first-true, second-true, or_first}
 use Rattle.word.proofs.OperandCounts.{in_table, reads_its_own}
+use Rattle.flat.specs.declared.keys.Key.{Key}
+use Rattle.flat.specs.declared.keys.Key.TheVariants.{Skip, Number, Control, Delay, Read, Write, Add, Subtract, Multiply, Quotient, Remainder, Less, Equal, Absolute, Negate, Select}
 use Rattle.flat.specs.Flat.{Instruction, effect, worked, worked_clips}
 use Rattle.flat.specs.Check.{unused, input_ok, instruction_ok}
-use Rattle.flat.specs.Steps.{Workable}
+use Rattle.flat.specs.Steps.{operation_key, key_of, Workable}
 use Rattle.flat.proofs.Decoded.{two, four}
 
 -- the rows of the table, by their codes
@@ -154,79 +156,85 @@ skips_inside cells end r controls x ρ cs h l = go refl (row cells end r x h)
     go e write = rw e (omega arith)
     go e skip = rw e (either_way (demand (get_or ρ x.a 0)) (says7 cells end r x h e).1)
 
--- the key of an instruction, from its code and its a
-abbrev keyed : ℕ → ℕ → ℕ
-keyed k a = pick (eqb k 7) 0 (pick (eqb k 3 and ltb 0 (operands a)) (7 + a) k)
+-- the code of an instruction, and the number of an operation, by the key
+abbrev pub code_of : Key → ℕ
+code_of Skip = 7
+code_of Number = 1
+code_of Control = 2
+code_of Delay = 4
+code_of Read = 5
+code_of Write = 6
+code_of Add = 3
+code_of Subtract = 3
+code_of Multiply = 3
+code_of Quotient = 3
+code_of Remainder = 3
+code_of Less = 3
+code_of Equal = 3
+code_of Absolute = 3
+code_of Negate = 3
+code_of Select = 3
 
--- a key from 1 to 7 is a code, as there is no operation 0
-key_code : {k : ℕ} (a j : ℕ) → Row k → (k ≡ 3 → 0 < operands a) → keyed k a ≡ j → 0 < j → j ≤ 7 → k ≡ j
-key_code a j number o e m l = e
-key_code a j control o e m l = e
-key_code a j operation o e m l = go (ltb 0 (operands a)) e
+abbrev pub op_of : Key → ℕ
+op_of Add = 1
+op_of Subtract = 2
+op_of Multiply = 3
+op_of Quotient = 4
+op_of Remainder = 5
+op_of Less = 6
+op_of Equal = 7
+op_of Absolute = 8
+op_of Negate = 9
+op_of Select = 10
+op_of _ = 0
+
+abbrev OpKept : ℕ → Type 0
+OpKept a = (3 ≡ code_of (operation_key a)) × (a ≡ op_of (operation_key a))
+
+try : (a n : ℕ) → OpKept n → ((a ≡ n → ⊥) → OpKept a) → OpKept a
+try a n p q = go (eqb a n) refl
   where
-    go : (t : Bool) → pick t (7 + a) 3 ≡ j → 3 ≡ j
-    go true e = omega (arith, (in_table a (o refl)).0)
-    go false e = e
-key_code a j delay o e m l = e
-key_code a j read o e m l = e
-key_code a j write o e m l = e
-key_code a j skip o e m l = omega arith
+    go : (t : Bool) → eqb a n ≡ t → OpKept a
+    go true e = subst OpKept (sym (eqb-true a n e)) p
+    go false e = q (eqb-false a n e)
 
--- a key from 8 on is an operation
-key_op : {k : ℕ} (a j : ℕ) → Row k → keyed k a ≡ 8 + j → (k ≡ 3) × (a ≡ 1 + j)
-key_op a j number e = omega arith
-key_op a j control e = omega arith
-key_op a j operation e = (refl, go (ltb 0 (operands a)) e)
+-- an operation keeps its number in its key
+op_kept : (a : ℕ) → 0 < operands a → OpKept a
+op_kept a h =
+    let (l, m) = in_table a h in
+    try a 1 (refl, refl) (λ n1. try a 2 (refl, refl) (λ n2. try a 3 (refl, refl) (λ n3. try a 4 (refl, refl) (λ n4. try a 5 (refl, refl) (λ n5. try a 6 (refl, refl) (λ n6. try a 7 (refl, refl) (λ n7. try a 8 (refl, refl) (λ n8. try a 9 (refl, refl) (λ n9. try a 10 (refl, refl) (λ n10. absurd (omega arith)))))))))))
+
+-- and an instruction its code
+code_kept : (x : Instruction) → Row x.code → (x.code ≡ 3 → 0 < operands x.a) → x.code ≡ code_of (key_of x)
+code_kept x w o = go refl w
   where
-    go : (t : Bool) → pick t (7 + a) 3 ≡ 8 + j → a ≡ 1 + j
-    go true e = omega arith
-    go false e = omega arith
-key_op a j delay e = omega arith
-key_op a j read e = omega arith
-key_op a j write e = omega arith
-key_op a j skip e = omega arith
-
--- where the key is none of these, it is a skip's
-abbrev Rest : Type 0 → ℕ → Type 0
-Rest A z = ((((((((((((((A × (z ≡ 1 → ⊥)) × (z ≡ 2 → ⊥)) × (z ≡ 4 → ⊥)) × (z ≡ 5 → ⊥)) × (z ≡ 6 → ⊥)) × (z ≡ 8 → ⊥)) × (z ≡ 9 → ⊥)) × (z ≡ 10 → ⊥)) × (z ≡ 11 → ⊥)) × (z ≡ 12 → ⊥)) × (z ≡ 13 → ⊥)) × (z ≡ 14 → ⊥)) × (z ≡ 15 → ⊥)) × (z ≡ 16 → ⊥)) × (z ≡ 17 → ⊥)
-
-key_left : {k : ℕ} {A : Type 0} (a : ℕ) → Row k → (k ≡ 3 → 0 < operands a) → Rest A (keyed k a) → k ≡ 7
-key_left a number o n = absurd (n.0.0.0.0.0.0.0.0.0.0.0.0.0.0.1 refl)
-key_left a control o n = absurd (n.0.0.0.0.0.0.0.0.0.0.0.0.0.1 refl)
-key_left a operation o n = let (l, h) = in_table a (o refl) in absurd (none l h (rw (lt-ltb 0 (operands a) (o refl)) at n))
-  where
-    on : {j : ℕ} → j ≤ a → (7 + a ≡ 7 + j → ⊥) → suc j ≤ a
-    on l q = omega arith
-
-    none : {A : Type 0} → 0 < a → a < length operand_table → Rest A (7 + a) → ⊥
-    none l h n = omega (arith, on (on (on (on (on (on (on (on (on (on l n.0.0.0.0.0.0.0.0.0.1) n.0.0.0.0.0.0.0.0.1) n.0.0.0.0.0.0.0.1) n.0.0.0.0.0.0.1) n.0.0.0.0.0.1) n.0.0.0.0.1) n.0.0.0.1) n.0.0.1) n.0.1) n.1)
-key_left a delay o n = absurd (n.0.0.0.0.0.0.0.0.0.0.0.0.1 refl)
-key_left a read o n = absurd (n.0.0.0.0.0.0.0.0.0.0.0.1 refl)
-key_left a write o n = absurd (n.0.0.0.0.0.0.0.0.0.0.1 refl)
-key_left a skip o n = refl
+    go : {k : ℕ} → x.code ≡ k → Row k → x.code ≡ code_of (key_of x)
+    go e number = rw e
+    go e control = rw e
+    go e operation = rw e (op_kept x.a (o e)).0
+    go e delay = rw e
+    go e read = rw e
+    go e write = rw e
+    go e skip = rw e
 
 -- the same where it is worked, by its key: the places that it reads and writes are there
-module _ {key : ℕ} {x : Instruction} {controls ρ cs : List ℕ} (w : Workable key x controls ρ cs) where
-  its_row : Row x.code
-  its_row = row _ _ _ _ w.ok
+module _ {key : Key} {x : Instruction} {controls ρ cs : List ℕ} (w : Workable key x controls ρ cs) where
+  pub code_is : {k : Key} → key ≡ k → x.code ≡ code_of k
+  code_is e = code_kept x (row _ _ _ _ w.ok) (says_op _ _ _ _ w.ok) ∙ ap code_of (sym w.keyed ∙ e)
 
-  pub code_is : {j : ℕ} → key ≡ j → 0 < j → j ≤ 7 → x.code ≡ j
-  code_is e m l = key_code x.a _ its_row (says_op _ _ _ _ w.ok) (sym w.keyed ∙ e) m l
-
-  -- the operation 1 + j
-  op_is : (j : ℕ) → key ≡ 8 + j → (x.code ≡ 3) × (x.a ≡ 1 + j)
-  op_is j e = key_op x.a j its_row (sym w.keyed ∙ e)
-
-  pub skip-left : {A : Type 0} → Rest A key → x.code ≡ 7
-  skip-left {A} n = key_left x.a its_row (says_op _ _ _ _ w.ok) (subst (Rest A) w.keyed n)
+  op_is : {k : Key} → key ≡ k → x.code ≡ 3 → x.a ≡ op_of k
+  op_is e o =
+      let z : operation_key x.a ≡ key_of x = rw o in
+      (op_kept x.a (says_op _ _ _ _ w.ok o)).1 ∙ ap op_of (z ∙ sym w.keyed ∙ e)
 
   -- what is no delay is not clipped
   pub untold : {k : ℕ} {told : Bool} → x.code ≡ k → eqb k 4 ≡ false → told ≡ told or worked_clips x ρ
   untold {told = told} e n = or_first told _ (rw (e, n))
 
-  module _ (j : ℕ) (e : key ≡ 8 + j) where
+  -- an operation, of the key k
+  module _ {k : Key} (e : key ≡ k) (o : code_of k ≡ 3) where
     named : (x.b < length ρ) × ((x.c < length ρ) × (x.e < length ρ))
-    named = let s = says3 _ _ _ _ w.ok (op_is j e).0 in (omega (arith, s.0, w.room), (omega (arith, s.1.0, w.room), omega (arith, s.1.1, w.room)))
+    named = let s = says3 _ _ _ _ w.ok (code_is e ∙ o) in (omega (arith, s.0, w.room), (omega (arith, s.1.0, w.room), omega (arith, s.1.1, w.room)))
 
     pub op_there : (x.b < length ρ) × (x.c < length ρ)
     op_there = (named.0, named.1.0)
@@ -235,30 +243,30 @@ module _ {key : ℕ} {x : Instruction} {controls ρ cs : List ℕ} (w : Workable
     third_there = named.1.1
 
     -- with the third register's number t; of an operation that has no third input, with 0
-    op_works : {v s t : ℕ} {told : Bool} → (2 < operands (1 + j) → t ≡ get_or ρ x.e 0) → (v ≡ operate (1 + j) (get_or ρ x.b 0) (get_or ρ x.c 0) t) × (s ≡ 0)
+    op_works : {v s t : ℕ} {told : Bool} → (2 < operands (op_of k) → t ≡ get_or ρ x.e 0) → (v ≡ operate (op_of k) (get_or ρ x.b 0) (get_or ρ x.c 0) t) × (s ≡ 0)
         → (worked controls x ρ cs ≡ effect v s cs) × (told ≡ told or worked_clips x ρ)
     unfolding worked
-    op_works g h = let o = op_is j e in (rw (o.0, o.1, h.0, h.1) (ap (λ (v : ℕ). effect v 0 cs) (sym (reads_its_own (1 + j) _ (λ l. refl) g))), untold o.0 refl)
+    op_works g h = let c = code_is e ∙ o in (rw (c, op_is e c, h.0, h.1) (ap (λ (v : ℕ). effect v 0 cs) (sym (reads_its_own (op_of k) _ (λ l. refl) g))), untold c refl)
 
-    pub two-work : {v s : ℕ} {told : Bool} → ltb 2 (operands (1 + j)) ≡ false → (v ≡ operate (1 + j) (get_or ρ x.b 0) (get_or ρ x.c 0) 0) × (s ≡ 0)
+    pub two-work : {v s : ℕ} {told : Bool} → ltb 2 (operands (op_of k)) ≡ false → (v ≡ operate (op_of k) (get_or ρ x.b 0) (get_or ρ x.c 0) 0) × (s ≡ 0)
         → (worked controls x ρ cs ≡ effect v s cs) × (told ≡ told or worked_clips x ρ)
-    two-work f = op_works (λ l. omega (arith, ltb-false 2 (operands (1 + j)) f))
+    two-work f = op_works (λ l. omega (arith, ltb-false 2 (operands (op_of k)) f))
 
-    pub three-work : {v s t : ℕ} {told : Bool} → t ≡ get_or ρ x.e 0 → (v ≡ operate (1 + j) (get_or ρ x.b 0) (get_or ρ x.c 0) t) × (s ≡ 0)
+    pub three-work : {v s t : ℕ} {told : Bool} → t ≡ get_or ρ x.e 0 → (v ≡ operate (op_of k) (get_or ρ x.b 0) (get_or ρ x.c 0) t) × (s ≡ 0)
         → (worked controls x ρ cs ≡ effect v s cs) × (told ≡ told or worked_clips x ρ)
     three-work f = op_works (λ l. f)
 
-  pub control_there : key ≡ 2 → x.a < length controls
-  control_there e = omega (arith, says2 _ _ _ _ w.ok (code_is e (omega arith) (omega arith)), w.sixteen)
+  pub control_there : key ≡ Control → x.a < length controls
+  control_there e = omega (arith, says2 _ _ _ _ w.ok (code_is e), w.sixteen)
 
-  pub delay_there : key ≡ 4 → (x.a < length ρ) × ((x.b < length ρ) × ((x.d ≤ 4095) × (x.c + suc x.d ≤ length cs)))
-  delay_there e = let o = says4 _ _ _ _ w.ok (code_is e (omega arith) (omega arith)) in (omega (arith, o.0, w.room), (omega (arith, o.1.0, w.room), o.1.1))
+  pub delay_there : key ≡ Delay → (x.a < length ρ) × ((x.b < length ρ) × ((x.d ≤ 4095) × (x.c + suc x.d ≤ length cs)))
+  delay_there e = let o = says4 _ _ _ _ w.ok (code_is e) in (omega (arith, o.0, w.room), (omega (arith, o.1.0, w.room), o.1.1))
 
-  pub cell_there : key ≡ 5 → x.a < length cs
-  cell_there e = says5 _ _ _ _ w.ok (code_is e (omega arith) (omega arith))
+  pub cell_there : key ≡ Read → x.a < length cs
+  cell_there e = says5 _ _ _ _ w.ok (code_is e)
 
-  pub write_there : key ≡ 6 → (x.a < length cs) × (x.b < length ρ)
-  write_there e = let o = says6 _ _ _ _ w.ok (code_is e (omega arith) (omega arith)) in (o.0, omega (arith, o.1, w.room))
+  pub write_there : key ≡ Write → (x.a < length cs) × (x.b < length ρ)
+  write_there e = let o = says6 _ _ _ _ w.ok (code_is e) in (o.0, omega (arith, o.1, w.room))
 
-  pub clock_there : x.code ≡ 7 → x.a < length ρ
-  clock_there e = omega (arith, (says7 _ _ _ _ w.ok e).0, w.room)
+  pub clock_there : key ≡ Skip → x.a < length ρ
+  clock_there e = omega (arith, (says7 _ _ _ _ w.ok (code_is e)).0, w.room)

@@ -1,17 +1,9 @@
 -- The runner: the complete result of one call, its answer, the lent cells and the output buffer after it.
 use Rattle.std.specs.Prelude.{ℕ, List, length}
 use Rattle.word.specs.Choice.{pick}
-use Rattle.refusal.specs.Answer.{Answer, refusal_of}
-use Rattle.cells.specs.Block.{with_report, Ran, refusal, called}
-use Rattle.flat.specs.declared.RunAnswer.{RunAnswer}
-use Rattle.flat.specs.declared.RunAnswer.TheVariants.{Samples, Refused}
+use Rattle.cells.specs.Block.{Ran, refusal, called}
 use Rattle.flat.specs.Code.{Code, decode, code_tick}
 use Rattle.flat.specs.Check.{code_ok}
-
--- the document's answer for each case: "the count of .. output samples .. that the call calls for", and its report
-abbrev pub answer_of : RunAnswer → Answer
-answer_of (Samples n k) = with_report n k
-answer_of (Refused r) = refusal_of r
 
 -- a call of a code that passed the check: 14, then 12; else its ticks
 abbrev pub checks : Code → ℕ → List ℕ → List ℕ → List ℕ → List ℕ → Ran

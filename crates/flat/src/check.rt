@@ -8,7 +8,7 @@ ghost use Rattle.flat.specs.Check.{unused as unused_of, input_ok, all_below, ins
 ghost use Rattle.flat.specs.Steps.{listed, Header};
 
 use crate::format::{
-    CELLS, HEADER, INPUTS, INSTRUCTIONS, Instruction, OUTPUTS, WIDTH, instruction_at,
+    CELLS, Code, HEADER, INPUTS, INSTRUCTIONS, Instruction, OUTPUTS, WIDTH, instruction_at,
 };
 use word::limits::{LONGEST_DELAY, MOST_CELLS, MOST_INSTRUCTIONS, SLOTS, WIDEST};
 use word::{index, operands};
@@ -45,21 +45,21 @@ fn operation_ok(x: Instruction, own: u32) -> bool
 fn instruction_ok(x: Instruction, cells: u32, end: u32, own: u32) -> bool
     ensures { result ≡ instruction_ok cells end own (listed x) }
 {
-    let code = x.code;
-    match code {
-        1 => unused(x.b, x.c, x.d, x.e),
-        2 => x.a < SLOTS && unused(x.b, x.c, x.d, x.e),
-        3 => operation_ok(x, own),
-        4 => {
+    match Code::numbered(x.code) {
+        Some(Code::Number) => unused(x.b, x.c, x.d, x.e),
+        Some(Code::Control) => x.a < SLOTS && unused(x.b, x.c, x.d, x.e),
+        Some(Code::Operation) => operation_ok(x, own),
+        Some(Code::Delay) => {
             x.a < own
                 && (x.b < own
                     && (x.d <= LONGEST_DELAY
                         && (index(x.c) + (index(x.d) + 1) <= index(cells) && x.e == 0)))
         }
-        5 => x.a < cells && unused(x.b, x.c, x.d, x.e),
-        6 => x.a < cells && (x.b < own && unused(0, x.c, x.d, x.e)),
-        7 => x.a < own && (index(own) + index(x.b) < index(end) && unused(0, x.c, x.d, x.e)),
-        _ => false,
+        Some(Code::Read) => x.a < cells && unused(x.b, x.c, x.d, x.e),
+        Some(Code::Write) => x.a < cells && (x.b < own && unused(0, x.c, x.d, x.e)),
+        Some(Code::Skip) => x.a < own
+            && (index(own) + index(x.b) < index(end) && unused(0, x.c, x.d, x.e)),
+        None => false,
     }
 }
 
@@ -85,30 +85,20 @@ fn instructions_ok(code: &[u32], count: u32, cells: u32, first: u32) -> bool
 {
     let end = first + count;
     let mut p: usize = HEADER;
-    let mut own: u32 = first;
-    while own < end {
+    for own in first..end {
         if !instruction_ok(instruction_at(code, p), cells, end, own) {
             return false;
         }
         p += WIDTH;
-        own += 1;
     }
     true
 }
 
-// The output registers, the numbers of the code from `from` on.
-fn results_ok(code: &[u32], from: usize, end: u32) -> bool
-    requires { from ≤ length code.now }
-    ensures { result ≡ all_below end (drop from code.now) }
+// The output registers.
+fn results_ok(registers: &[u32], end: u32) -> bool
+    ensures { result ≡ all_below end registers.now }
 {
-    let mut i: usize = from;
-    while i < code.len() {
-        if code[i] >= end {
-            return false;
-        }
-        i += 1;
-    }
-    true
+    registers.iter().all(|register| *register < end)
 }
 
 // The instructions and the output registers of a code whose header is right.
@@ -118,7 +108,8 @@ fn body_ok(code: &[u32]) -> bool
 {
     let n = code[INPUTS];
     let c = code[INSTRUCTIONS];
-    instructions_ok(code, c, code[CELLS], n) && results_ok(code, HEADER + WIDTH * index(c), n + c)
+    let results = HEADER + WIDTH * index(c);
+    instructions_ok(code, c, code[CELLS], n) && results_ok(&code[results..], n + c)
 }
 
 // Does row 13 let the code pass?

@@ -1,8 +1,10 @@
 // The format of flat code: a header, instructions of so many numbers each, and the output registers.
-ghost use Rattle.std.specs.Prelude.{◌≡◌, ◌+◌, ◌≤◌, length};
+ghost use Rattle.std.specs.Prelude.{◌≡◌, ◌≢◌, ◌+◌, ◌≤◌, length, MatchOption};
 ghost use Rattle.flat.specs.Flat.{width};
 ghost use Rattle.cells.specs.Cells.{store};
 ghost use Rattle.flat.specs.Code.{instruction_numbers, instruction_at};
+ghost use Rattle.flat.specs.Codes.{number_of};
+ghost use Rattle.flat.specs.declared.format.Code.{Code};
 ghost use Rattle.flat.specs.Steps.{listed};
 
 use word::limits::{BEAM, MOST_INSTRUCTIONS};
@@ -25,6 +27,43 @@ pub const HEADER: usize = 4;
 pub const REGISTERS: usize = BEAM + MOST_INSTRUCTIONS as usize;
 
 pub const CODE_NUMBERS: usize = HEADER + WIDTH * MOST_INSTRUCTIONS as usize + BEAM;
+
+// What an instruction does, by the table of codes.
+#[derive(Clone, Copy, Debug, PartialEq, Eq)]
+pub enum Code {
+    Number = 1,
+    Control = 2,
+    Operation = 3,
+    Delay = 4,
+    Read = 5,
+    Write = 6,
+    Skip = 7,
+}
+
+impl Code {
+    // The code of the number `number`, where there is one.
+    pub fn numbered(number: u32) -> Option<Code>
+        ensures { MatchOption result ((c : Code) → number_of c ≢ number) (λ c. number_of c ≡ number) }
+    {
+        match number {
+            1 => Some(Code::Number),
+            2 => Some(Code::Control),
+            3 => Some(Code::Operation),
+            4 => Some(Code::Delay),
+            5 => Some(Code::Read),
+            6 => Some(Code::Write),
+            7 => Some(Code::Skip),
+            _ => None,
+        }
+    }
+
+    // Its number in the table.
+    pub fn number(self) -> u32
+        ensures { result ≡ number_of self }
+    {
+        self as u32
+    }
+}
 
 // One instruction: its code and its operands.
 #[derive(Clone, Copy)]

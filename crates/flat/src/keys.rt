@@ -1,39 +1,77 @@
-// The keys of a code's instructions: what each does, in one number.
+// The keys of a code's instructions: what each does.
 ghost use Rattle.std.specs.Prelude.{◌≡◌, ◌+◌, ◌≤◌, length};
 ghost use Rattle.flat.specs.Code.{header, most_registers, input_count, instruction_count};
-ghost use Rattle.flat.specs.Steps.{listed, key_of, Header, Keys};
+ghost use Rattle.flat.specs.Steps.{listed, operation_key, key_of, Header, Keys};
 
-use crate::format::{HEADER, INPUTS, INSTRUCTIONS, Instruction, WIDTH, instruction_at};
-use word::{index, operands};
+use crate::format::{Code, HEADER, INPUTS, INSTRUCTIONS, Instruction, WIDTH, instruction_at};
+use word::{Operation, index};
 
-// The key of an instruction: 0 for a skip, 7 and its op for an operation, for any other its code.
-fn key_of(x: Instruction) -> u32
+// What an instruction does: an operation's key names it, so that the machine finds it by one jump.
+#[derive(Clone, Copy)]
+pub enum Key {
+    Skip,
+    Number,
+    Control,
+    Delay,
+    Read,
+    Write,
+    Add,
+    Subtract,
+    Multiply,
+    Quotient,
+    Remainder,
+    Less,
+    Equal,
+    Absolute,
+    Negate,
+    Select,
+}
+
+// The key of the operation `op`.
+fn operation_key(op: u32) -> Key
+    ensures { result ≡ operation_key op }
+{
+    match Operation::numbered(op) {
+        Some(Operation::Add) => Key::Add,
+        Some(Operation::Subtract) => Key::Subtract,
+        Some(Operation::Multiply) => Key::Multiply,
+        Some(Operation::Quotient) => Key::Quotient,
+        Some(Operation::Remainder) => Key::Remainder,
+        Some(Operation::Less) => Key::Less,
+        Some(Operation::Equal) => Key::Equal,
+        Some(Operation::Absolute) => Key::Absolute,
+        Some(Operation::Negate) => Key::Negate,
+        Some(Operation::Select) => Key::Select,
+        None => Key::Skip,
+    }
+}
+
+// The key of an instruction that passed the check.
+fn key_of(x: Instruction) -> Key
     ensures { result ≡ key_of (listed x) }
 {
-    if x.code == 7 {
-        return 0;
+    match Code::numbered(x.code) {
+        Some(Code::Number) => Key::Number,
+        Some(Code::Control) => Key::Control,
+        Some(Code::Operation) => operation_key(x.a),
+        Some(Code::Delay) => Key::Delay,
+        Some(Code::Read) => Key::Read,
+        Some(Code::Write) => Key::Write,
+        Some(Code::Skip) => Key::Skip,
+        None => Key::Skip,
     }
-    if x.code != 3 {
-        return x.code;
-    }
-    if 0 < operands(x.a) {
-        return 7 + x.a;
-    }
-    x.code
 }
 
 // The keys of a code, each at the register that its instruction writes.
-pub fn put_keys(code: &[u32], keys: &mut [u32])
+pub fn put_keys(code: &[u32], keys: &mut [Key])
     requires { Header code.now × (most_registers ≤ length keys.old) }
     ensures { Keys code.now keys.new (input_count code.now + instruction_count code.now) header (input_count code.now) }
 {
     let first = index(code[INPUTS]);
     let end = first + index(code[INSTRUCTIONS]);
     let mut p: usize = HEADER;
-    let mut own: usize = first;
-    while own < end {
+    for own in first..end {
         keys[own] = key_of(instruction_at(code, p));
         p += WIDTH;
-        own += 1;
     }
 }

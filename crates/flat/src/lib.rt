@@ -8,15 +8,15 @@ mod machine;
 mod tick;
 
 ghost use Rattle.std.specs.Prelude.{◌≡◌, ◌+◌};
-ghost use Rattle.cells.specs.Block.{ran_as, ticks_of, played_as, played};
+ghost use Rattle.cells.specs.Block.{answer_of, ran_as, ticks_of, played_as, played};
 ghost use Rattle.flat.specs.Code.{header, input_count, instruction_count, decode, code_tick};
-ghost use Rattle.flat.specs.Run.{answer_of, checks, ran};
+ghost use Rattle.flat.specs.Run.{checks, ran};
 ghost use Rattle.flat.specs.Steps.{Checked, Keys, Playable};
 
-use cells::block_ok;
+use cells::{Samples, block_ok};
 use check::code_ok;
 use format::{CELLS, INPUTS, OUTPUTS, REGISTERS};
-use keys::put_keys;
+use keys::{Key, put_keys};
 use refusal::Refusal;
 use tick::run_tick;
 use word::{bit, index};
@@ -25,7 +25,7 @@ use word::{bit, index};
 // with the keys of its code; in how many of them was a delay clipped?
 fn play_keyed(
     code: &[u32],
-    keys: &[u32],
+    keys: &[Key],
     ticks: usize,
     inputs: &[u32],
     controls: &[u32],
@@ -40,11 +40,10 @@ fn play_keyed(
     let n = index(code[INPUTS]);
     let m = index(code[OUTPUTS]);
     let mut registers = [0u32; REGISTERS];
-    let mut left: usize = ticks;
     let mut read: usize = 0;
     let mut written: usize = 0;
     let mut clips: u32 = 0;
-    while 0 < left {
+    for i in 0..ticks {
         let read_to = read + n;
         let written_to = written + m;
         let clipped = run_tick(
@@ -59,7 +58,6 @@ fn play_keyed(
         clips += bit(clipped);
         read = read_to;
         written = written_to;
-        left -= 1;
     }
     clips
 }
@@ -77,16 +75,9 @@ fn play(
     ensures { played (code_tick (decode code.now)) (ticks_of (input_count code.now) controls.now ticks inputs.now) cells.old
         ≡ played_as outputs.new cells.new result }
 {
-    let mut keys = [0u32; REGISTERS];
+    let mut keys = [Key::Skip; REGISTERS];
     put_keys(code, &mut keys);
     play_keyed(code, &keys, ticks, inputs, controls, cells, outputs)
-}
-
-// The count of output samples that a call calls for, with the count of its ticks in which a delay was clipped; or its refusal.
-#[derive(Drop)]
-pub enum RunAnswer {
-    Samples { count: u32, clipped: u32 },
-    Refused(Refusal),
 }
 
 // A call of a code that passed the check: refusal 14, then 12; else its ticks.
@@ -97,22 +88,22 @@ fn run_checked(
     controls: &[u32],
     cells: &mut [u32],
     outputs: &mut [u32],
-) -> RunAnswer
+) -> Result<Samples, Refusal>
     requires { Checked code.now }
     ensures { ran_as (answer_of result) cells.new outputs.new
         ≡ checks (decode code.now) ticks inputs.now controls.now cells.old outputs.old }
 {
     if !block_ok(code[INPUTS], ticks, inputs, controls) {
-        return RunAnswer::Refused(Refusal::WrongBlock);
+        return Err(Refusal::WrongBlock);
     }
     let count = index(code[CELLS]);
     if cells.len() < count {
-        return RunAnswer::Refused(Refusal::ShortBuffer);
+        return Err(Refusal::ShortBuffer);
     }
     let t = index(ticks);
     let total = t * index(code[OUTPUTS]);
     if outputs.len() < total {
-        return RunAnswer::Refused(Refusal::ShortBuffer);
+        return Err(Refusal::ShortBuffer);
     }
     let clipped = play(
         code,
@@ -122,10 +113,10 @@ fn run_checked(
         &mut cells[..count],
         &mut outputs[..total],
     );
-    RunAnswer::Samples {
+    Ok(Samples {
         count: total as u32,
         clipped,
-    }
+    })
 }
 
 // One call, with any numbers as code: refusal 13, then 14, then 12; else its output samples, and the cells after them.
@@ -136,12 +127,12 @@ pub fn run(
     controls: &[u32],
     cells: &mut [u32],
     outputs: &mut [u32],
-) -> RunAnswer
+) -> Result<Samples, Refusal>
     ensures { ran_as (answer_of result) cells.new outputs.new
         ≡ ran code.now ticks inputs.now controls.now cells.old outputs.old }
 {
     if !code_ok(code) {
-        return RunAnswer::Refused(Refusal::WrongCode);
+        return Err(Refusal::WrongCode);
     }
     run_checked(code, ticks, inputs, controls, cells, outputs)
 }

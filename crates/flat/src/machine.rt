@@ -2,13 +2,15 @@
 ghost use Rattle.std.specs.Prelude.{◌≡◌, ◌+◌, ◌<◌, length, get_or, take, drop};
 ghost use Rattle.word.specs.Choice.{◌or◌, pick};
 ghost use Rattle.word.specs.Operation.{operate as operate_of, demand as demand_of};
+ghost use Rattle.word.specs.Table.{number_of};
 ghost use Rattle.flat.specs.Flat.{worked, worked_clips, effect, machine, execute as execute_of, execute_clips};
 ghost use Rattle.flat.specs.Code.{header, instructions_of, input_count, instruction_count};
 ghost use Rattle.flat.specs.Steps.{listed, Workable, Steppable, Advanced, Ready};
 
 use crate::format::{HEADER, INPUTS, INSTRUCTIONS, Instruction, WIDTH, instruction_at};
+use crate::keys::Key;
 use cells::{clear, delay_at, tell};
-use word::{demand, index, operate};
+use word::{Operation, demand, index};
 
 // What an instruction gives: the value of its register, and how many instructions are to be skipped after it.
 #[derive(Drop)]
@@ -37,20 +39,20 @@ fn skips(clock: u32, count: usize) -> Effect
     }
 }
 
-// The operation `op` on the registers that an instruction names, and a third number.
-fn operated(op: u32, x: Instruction, third: u32, registers: &[u32]) -> Effect
+// The operation on the registers that an instruction names, and a third number.
+fn operated(operation: Operation, x: Instruction, third: u32, registers: &[u32]) -> Effect
     requires { (x.b < length registers.now) × (x.c < length registers.now) }
-    ensures { (result.value ≡ operate_of op (get_or registers.now x.b 0) (get_or registers.now x.c 0) third) × (result.skip ≡ 0) }
+    ensures { (result.value ≡ operate_of (number_of operation) (get_or registers.now x.b 0) (get_or registers.now x.c 0) third) × (result.skip ≡ 0) }
 {
     let b = index(x.b);
     let c = index(x.c);
-    gives(operate(op, registers[b], registers[c], third))
+    gives(operation.value(registers[b], registers[c], third))
 }
 
 // One instruction that is not skipped, by its key. An operation's arm names it as a constant, so that each is compiled
 // for itself, and one jump finds it; only the selector reads a third register, only a delay tells that it was clipped.
 fn work(
-    key: u32,
+    key: Key,
     x: Instruction,
     controls: &[u32],
     registers: &[u32],
@@ -64,35 +66,35 @@ fn work(
     let a = index(x.a);
     let b = index(x.b);
     match key {
-        1 => gives(x.a),
-        2 => gives(controls[a]),
-        4 => {
+        Key::Number => gives(x.a),
+        Key::Control => gives(controls[a]),
+        Key::Delay => {
             let delayed = delay_at(cells, index(x.c), index(x.d), registers[a], registers[b]);
             tell(told, delayed.clipped);
             gives(delayed.value)
         }
-        5 => gives(cells[a]),
-        6 => {
+        Key::Read => gives(cells[a]),
+        Key::Write => {
             cells[a] = registers[b];
             gives(0)
         }
-        8 => operated(1, x, 0, registers),
-        9 => operated(2, x, 0, registers),
-        10 => operated(3, x, 0, registers),
-        11 => operated(4, x, 0, registers),
-        12 => operated(5, x, 0, registers),
-        13 => operated(6, x, 0, registers),
-        14 => operated(7, x, 0, registers),
-        15 => operated(8, x, 0, registers),
-        16 => operated(9, x, 0, registers),
-        17 => operated(10, x, registers[index(x.e)], registers),
-        _ => skips(registers[a], b),
+        Key::Add => operated(Operation::Add, x, 0, registers),
+        Key::Subtract => operated(Operation::Subtract, x, 0, registers),
+        Key::Multiply => operated(Operation::Multiply, x, 0, registers),
+        Key::Quotient => operated(Operation::Quotient, x, 0, registers),
+        Key::Remainder => operated(Operation::Remainder, x, 0, registers),
+        Key::Less => operated(Operation::Less, x, 0, registers),
+        Key::Equal => operated(Operation::Equal, x, 0, registers),
+        Key::Absolute => operated(Operation::Absolute, x, 0, registers),
+        Key::Negate => operated(Operation::Negate, x, 0, registers),
+        Key::Select => operated(Operation::Select, x, registers[index(x.e)], registers),
+        Key::Skip => skips(registers[a], b),
     }
 }
 
 // One instruction: its own register, and zeros for the instructions that it skips, which it counts.
 fn step(
-    key: u32,
+    key: Key,
     x: Instruction,
     controls: &[u32],
     own: usize,
@@ -116,7 +118,7 @@ fn step(
 // The instructions of a code, over registers of which the first hold the inputs; was a delay clipped?
 pub fn execute(
     code: &[u32],
-    keys: &[u32],
+    keys: &[Key],
     controls: &[u32],
     registers: &mut [u32],
     cells: &mut [u32],
@@ -131,6 +133,7 @@ pub fn execute(
     let mut p: usize = HEADER;
     let mut own: usize = first;
     let mut told = false;
+    // no `for`: each instruction says how many behind it are skipped
     while own < end {
         let skip = step(
             keys[own],

@@ -7,6 +7,7 @@ ghost use Rattle.flat.specs.Check.{all_below};
 ghost use Rattle.flat.specs.Steps.{Ready};
 
 use crate::format::{HEADER, INSTRUCTIONS, WIDTH};
+use crate::keys::Key;
 use crate::machine::execute;
 use word::index;
 
@@ -15,11 +16,7 @@ fn put(inputs: &[u32], registers: &mut [u32])
     requires { length inputs.now ≤ length registers.old }
     ensures { take (length inputs.now) registers.new ≡ inputs.now }
 {
-    let mut i: usize = 0;
-    while i < inputs.len() {
-        registers[i] = inputs[i];
-        i += 1;
-    }
+    registers[..inputs.len()].copy_from_slice(inputs);
 }
 
 // What the output registers hold, which the code names from `from` on.
@@ -27,18 +24,15 @@ fn gather(code: &[u32], from: usize, registers: &[u32], outputs: &mut [u32])
     requires { (from + length outputs.old ≡ length code.now) × (all_below (length registers.now) (drop from code.now) ≡ true) }
     ensures { outputs.new ≡ held registers.now (drop from code.now) }
 {
-    let mut i: usize = 0;
-    while i < outputs.len() {
-        let at = index(code[from + i]);
-        outputs[i] = registers[at];
-        i += 1;
+    for (i, output) in outputs.iter_mut().enumerate() {
+        *output = registers[index(code[from + i])];
     }
 }
 
 // The tick; what the registers held before does not matter. Was a delay clipped in it?
 pub fn run_tick(
     code: &[u32],
-    keys: &[u32],
+    keys: &[Key],
     controls: &[u32],
     inputs: &[u32],
     registers: &mut [u32],

@@ -1,17 +1,22 @@
 -- Copying a table node by node, its child numbers moved on.
 use Prim.Native.Nat.{ℕ, suc, ◌+◌, ◌-◌, ◌*◌, ◌/◌, ◌^◌, ◌≤◌, ◌<◌}
 use mathlib.Core.Path.{◌≡◌, refl, sym, ap, ap₂, ◌∙◌}
-use mathlib.Core.Bool.{Bool, true}
+use mathlib.Core.Bool.{Bool, true, false, not, false≢true}
 use mathlib.Core.List.{List, [], ◌∷◌, ◌++◌}
 use native.Mathlib.Omega.{arith}
+use native.Mathlib.Decide.{dec_le}
 use native.Mathlib.Nat.{add-zero}
-use borrow.Author.Tests.{leb-true}
+use borrow.Author.Tests.{leb-true, le-leb, lt-leb}
 use lib.Dec.{leb}
 use lib.ListN.{length, get_or, drop, set, drop_of_length-le}
 use lib.Seq.{sets, length-sets, drop-cons}
+use Rattle.std.specs.Prelude.{Option, Some, None, MatchOption}
+use Rattle.std.specs.Option.{IsSome}
 use Rattle.word.specs.Choice.{pick}
-use Rattle.arity.specs.Table.{kind_at, first_at, second_at, nodes}
-use Rattle.arity.specs.Check.{two_children, IsAccepted}
+use Rattle.arity.specs.Table.{kind_at, first_at, second_at}
+use Rattle.arity.specs.Check.{known_kind, two_children, IsAccepted}
+use Rattle.arity.specs.Kinds.{number_of}
+use Rattle.arity.specs.declared.kinds.Kind.{Kind}
 use Rattle.drawing.specs.Numbering.{moved, closed, joined}
 use Rattle.drawing.specs.Laws.{Joinable}
 use Rattle.drawing.proofs.Closed.{moved_length, moved_none}
@@ -23,14 +28,17 @@ sets_append : (xs ys c : List ℕ) (a : ℕ) → sets (sets c a xs) (a + length 
 sets_append [] ys c a = rw add-zero
 sets_append (x ∷ xs) ys c a = let e : a + suc (length xs) ≡ suc a + length xs = omega arith in rw e (sets_append xs ys (set c a x) (suc a))
 
+not_low : (k : ℕ) → not (leb k 6) ≡ leb 7 k
+not_low k = go (dec_le k 6)
+  where
+    go : Dec (k ≤ 6) → not (leb k 6) ≡ leb 7 k
+    go (yes h) = rw (le-leb k 6 h, lt-leb 7 k (omega arith))
+    go (no h) = rw (lt-leb k 6 (omega arith), le-leb 7 k (omega arith))
+
 -- i nodes are written: what is left is to be written from node at + i on
 pub record Going (t : List ℕ) (at n : ℕ) (out : List ℕ) (i : ℕ) (now : List ℕ) : Type 0 where
-  pub within : i ≤ nodes t
   pub same : length now ≡ length out
   pub rest : sets now (3 * (at + i)) (moved n (drop (3 * i) t)) ≡ sets out (3 * at) (moved n t)
-
-pub going_starts : (t : List ℕ) (at n : ℕ) (out : List ℕ) → Going t at n out 0 out
-going_starts t at n out = record { within = omega arith; same = refl; rest = let z : at + 0 ≡ at = omega arith in rw z }
 
 module _ {t : List ℕ} {at n : ℕ} {out : List ℕ} (a : IsAccepted t) (s : Space t at n out) where
   pub going_ends : {i : ℕ} {now : List ℕ} → Going t at n out i now → length t / 3 ≤ i → now ≡ sets out (3 * at) (moved n t)
@@ -43,13 +51,22 @@ module _ {t : List ℕ} {at n : ℕ} {out : List ℕ} (a : IsAccepted t) (s : Sp
     pub room : (at + i < 512) × (3 * (at + i) + 3 ≤ length now)
     room = (omega (arith, s.few), omega (arith, g.same, s.long))
 
-    pub first_fits : leb 7 (kind_at t i) ≡ true → n + first_at t i < 2 ^ 32
-    first_fits e = omega (arith, (((formed t a).children i h).first (leb-true 7 (kind_at t i) e)).lower, (formed t a).most, s.near)
+    pub named : {k : ℕ} (o : Option Kind) → k ≡ kind_at t i → MatchOption o (known_kind k ≡ false) (λ kind. number_of kind ≡ k) → IsSome o
+    named (Some kind) e q = refl
+    named None e q =
+        let (l, m) = (formed t a).kinds i h in
+        absurd (false≢true (sym q ∙ rw (e, le-leb 1 (kind_at t i) l, le-leb (kind_at t i) 12 m)))
 
-    pub second_fits : two_children (kind_at t i) ≡ true → n + second_at t i < 2 ^ 32
-    second_fits e =
-        let (l, m) = two-kinds (kind_at t i) e in
-        omega (arith, (((formed t a).children i h).second l m).lower, (formed t a).most, s.near)
+    module _ {k : ℕ} (e : k ≡ kind_at t i) where
+      pub first_fits : {low : Bool} → low ≡ leb k 6 → not low ≡ true → n + first_at t i < 2 ^ 32
+      first_fits q u =
+          let l : leb 7 (kind_at t i) ≡ true = sym (not_low (kind_at t i)) ∙ ap not (ap (λ (x : ℕ). leb x 6) (sym e) ∙ sym q) ∙ u in
+          omega (arith, (((formed t a).children i h).first (leb-true 7 (kind_at t i) l)).lower, (formed t a).most, s.near)
+
+      pub second_fits : {both : Bool} → both ≡ two_children k → both ≡ true → n + second_at t i < 2 ^ 32
+      second_fits q u =
+          let (l, m) = two-kinds (kind_at t i) (ap two_children (sym e) ∙ sym q ∙ u) in
+          omega (arith, (((formed t a).children i h).second l m).lower, (formed t a).most, s.near)
 
     row : drop (3 * i) t ≡ kind_at t i ∷ first_at t i ∷ second_at t i ∷ drop (3 * (i + 1)) t
     row =
@@ -64,11 +81,11 @@ module _ {t : List ℕ} {at n : ℕ} {out : List ℕ} (a : IsAccepted t) (s : Sp
         ∙ ap {B = List ℕ} (λ l. first_at t i ∷ l)
         (ap (λ (k : ℕ). drop k t) e ∙ drop-cons t (3 * i + 2) 0 (omega arith) ∙ ap {B = List ℕ} (λ l. second_at t i ∷ l) (ap (λ (k : ℕ). drop k t) f)))
 
-    pub going_on : {k f s x y : ℕ} {both : Bool} {next : List ℕ} → k ≡ kind_at t i → f ≡ first_at t i → s ≡ second_at t i → both ≡ two_children k
-        → x ≡ pick (leb 7 k) (n + f) f → y ≡ pick both (n + s) s → next ≡ sets now (3 * (at + i)) (k ∷ x ∷ y ∷ []) → Going t at n out (i + 1) next
-    going_on {k} {f} {s} {x} {y} {both} {next} c u v w d e p =
+    pub going_on : {k j f s x y : ℕ} {low both : Bool} {next : List ℕ} → k ≡ kind_at t i → j ≡ kind_at t i → f ≡ first_at t i → s ≡ second_at t i
+        → low ≡ leb j 6 → both ≡ two_children j → x ≡ pick (not low) (n + f) f → y ≡ pick both (n + s) s → next ≡ sets now (3 * (at + i)) (k ∷ x ∷ y ∷ [])
+        → Going t at n out (i + 1) next
+    going_on {k} {j} {f} {s} {x} {y} {low} {both} {next} c b u v z w d e p =
         record {
-          within = omega arith;
           same = ap length p ∙ length-sets now (3 * (at + i)) (k ∷ x ∷ y ∷ []) ∙ g.same;
           rest =
               let q : 3 * (at + (i + 1)) ≡ 3 * (at + i) + 3 = omega arith in
@@ -79,19 +96,13 @@ module _ {t : List ℕ} {at n : ℕ} {out : List ℕ} (a : IsAccepted t) (s : Sp
         }
       where
         shown : moved n (drop (3 * i) t) ≡ (k ∷ x ∷ y ∷ []) ++ moved n (drop (3 * (i + 1)) t)
-        shown = ap (moved n) row ∙ (unfold moved in rw (d, e, w, u, v, c))
+        shown = ap (moved n) row ∙ (unfold moved in rw (d, e, z, w, not_low j, b, u, v, c))
 
 -- the joined table from its three parts
 module _ (t u out : List ℕ) (j : Joinable t u) (long : length t + length u + 3 ≤ length out) where
-  pub first-space : Space t 0 0 out
-  first-space = record { near = omega arith; few = omega (arith, j.few); long = omega (arith, (formed t j.first).whole) }
-
   module _ {out₁ : List ℕ} (p : out₁ ≡ sets out 0 (moved 0 t)) where
     same_first : length out₁ ≡ length out
     same_first = ap length p ∙ length-sets out 0 (moved 0 t)
-
-    pub second-space : Space u (length t / 3) (length t / 3) out₁
-    second-space = record { near = omega (arith, j.few); few = omega (arith, j.few); long = omega (arith, (formed u j.second).whole, same_first) }
 
     module _ {out₂ : List ℕ} (q : out₂ ≡ sets out₁ (3 * (length t / 3)) (moved (length t / 3) u)) where
       same_second : length out₂ ≡ length out

@@ -2,19 +2,12 @@
 use Rattle.std.specs.Prelude.{ℕ, ◌+◌, List, ◌++◌, leb, length, drop}
 use Rattle.word.specs.Choice.{pick}
 use Rattle.word.specs.Limits.{most_nodes}
-use Rattle.refusal.specs.Answer.{Answer, count, refusal_of, refused_all}
+use Rattle.refusal.specs.Answer.{Answer, count, refused_all}
 use Rattle.refusal.specs.Answer.Answer.{counts, refused}
 use Rattle.refusal.specs.Outcome.{Outcome, outcome}
 use Rattle.arity.specs.Table.{nodes}
 use Rattle.arity.specs.Check.{checked}
 use Rattle.drawing.specs.Numbering.{joined}
-use Rattle.joining.specs.declared.JoinAnswer.{JoinAnswer}
-use Rattle.joining.specs.declared.JoinAnswer.TheVariants.{Numbers, Refused}
-
--- the document's answer for each case
-abbrev pub answer_of : JoinAnswer → Answer
-answer_of (Numbers n) = count n
-answer_of (Refused r) = refusal_of r
 
 -- from the check's answer to a table: its refusal; 12; or the table, and "a buffer longer than needed keeps its content past the needed part"
 abbrev pub written_by : Answer → (table out : List ℕ) → Outcome

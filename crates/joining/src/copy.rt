@@ -3,30 +3,21 @@ ghost use Rattle.std.specs.Prelude.{◌≡◌, true, [], ◌∷◌, ◌+◌, ◌
 ghost use Rattle.std.proofs.lemmas.List.Edits.{sets};
 ghost use Rattle.word.specs.Choice.{pick};
 ghost use Rattle.word.specs.Limits.{most_nodes};
-ghost use Rattle.arity.specs.Check.{two_children, IsAccepted};
+ghost use Rattle.arity.specs.Check.{IsAccepted};
 ghost use Rattle.drawing.specs.Numbering.{moved};
 ghost use Rattle.drawing.specs.Numbering.{joined as joined_table};
 ghost use Rattle.drawing.specs.Laws.{Joinable};
 ghost use Rattle.joining.specs.Copy.{Space};
 
 use arity::fields::{first_of, kind_of, second_of};
-
-// Whether both fields of a node of this kind are children.
-fn two_children(kind: u32) -> bool
-    ensures { result ≡ two_children kind }
-{
-    7 <= kind && kind <= 11
-}
+use arity::kinds::Kind;
 
 // A field of a node, moved on by n where it is a child.
 fn moved_field(child: bool, field: u32, n: u32) -> u32
     requires { child ≡ true → n + field < 2 ^ 32 }
     ensures { result ≡ pick child (n + field) field }
 {
-    if child {
-        return n + field;
-    }
-    field
+    if child { n + field } else { field }
 }
 
 // The three numbers of node `at` of a table.
@@ -34,10 +25,7 @@ fn put_node(out: &mut [u32], at: usize, kind: u32, first: u32, second: u32)
     requires { (at < most_nodes) × (3 * at + 3 ≤ length out.old) }
     ensures { out.new ≡ sets out.old (3 * at) (kind ∷ first ∷ second ∷ []) }
 {
-    let from = 3 * at;
-    out[from] = kind;
-    out[from + 1] = first;
-    out[from + 2] = second;
+    out[3 * at..3 * at + 3].copy_from_slice(&[kind, first, second]);
 }
 
 // The nodes of a table from node `at` of another on, child numbers moved on by n.
@@ -46,14 +34,12 @@ fn put_table(table: &[u32], at: usize, n: u32, out: &mut [u32])
     requires space { Space table.now at n out.old }
     ensures { out.new ≡ sets out.old (3 * at) (moved n table.now) }
 {
-    let count = table.len() / 3;
-    let mut i: usize = 0;
-    while i < count {
-        let kind = kind_of(table, i);
-        let first = moved_field(7 <= kind, first_of(table, i), n);
-        let second = moved_field(two_children(kind), second_of(table, i), n);
-        put_node(out, at + i, kind, first, second);
-        i += 1;
+    for i in 0..table.len() / 3 {
+        let number = kind_of(table, i);
+        let kind = Kind::numbered(number).unwrap();
+        let first = moved_field(!kind.is_primitive(), first_of(table, i), n);
+        let second = moved_field(kind.is_composition(), second_of(table, i), n);
+        put_node(out, at + i, number, first, second);
     }
 }
 

@@ -9,10 +9,8 @@ use lib.ListN.{length, take, drop, length-append}
 use lib.Seq.{take_at}
 use Rattle.refusal.specs.declared.Refusal.{Refusal}
 use Rattle.refusal.specs.Refusals.{number_of, place_of}
-use Rattle.refusal.specs.Answer.{Answer, count, refusal_of}
-use Rattle.column.specs.declared.ReadAnswer.{ReadAnswer}
-use Rattle.column.specs.declared.ReadAnswer.TheVariants.{Nodes, Refused}
-use Rattle.column.specs.Answers.{readAnswer}
+use Rattle.std.specs.Prelude.{Result, Ok, Err}
+use Rattle.refusal.specs.Answer.{Answer, count, refusal_of, answer_of}
 use Rattle.refusal.specs.Outcome.{Outcome, outcome}
 use Rattle.column.specs.Line.{lines}
 use Rattle.column.specs.File.{file_refusal, table_of, reading}
@@ -23,12 +21,12 @@ use Rattle.number.specs.Put.{Put, Begins}
 use Rattle.number.proofs.Stores.{begins_of}
 use Rattle.listing.specs.Print.{refusal_text, table_text, file_text}
 
-module _ (file table : List ℕ) (a : ReadAnswer) (table' : List ℕ) (q : outcome (readAnswer a) table' ≡ reading file table) where
-  answered : readAnswer a ≡ (reading file table).answer
+module _ (file table : List ℕ) (a : Result ℕ Refusal) (table' : List ℕ) (q : outcome (answer_of a) table' ≡ reading file table) where
+  answered : answer_of a ≡ (reading file table).answer
   answered = ap (λ (c : Outcome). c.answer) q
 
   -- where the table is long enough, only the lines are refused
-  lines-refused : 1536 ≤ length table → (r : Refusal) → a ≡ Refused r → file_refusal file ≡ some (refusal_of r)
+  lines-refused : 1536 ≤ length table → (r : Refusal) → a ≡ Err r → file_refusal file ≡ some (refusal_of r)
   unfolding reading
   lines-refused h r e = go (file_refusal file) refl
     where
@@ -39,13 +37,13 @@ module _ (file table : List ℕ) (a : ReadAnswer) (table' : List ℕ) (q : outco
           absurd (let z : ◌≡◌ {A = ℕ} 0 1 = cc s in omega arith)
       go (some x) f = let s : refusal_of r ≡ x = rw (e, f) at answered in f ∙ ap (λ (y : Answer). some y) (sym s)
 
-  pub file_refused : 1536 ≤ length table → (r : Refusal) → a ≡ Refused r → {text : List ℕ} {n : ℕ} {text' : List ℕ} → Put (refusal_text (number_of r) (place_of r)) text 0 n text' → Begins (file_text file) text n text'
+  pub file_refused : 1536 ≤ length table → (r : Refusal) → a ≡ Err r → {text : List ℕ} {n : ℕ} {text' : List ℕ} → Put (refusal_text (number_of r) (place_of r)) text 0 n text' → Begins (file_text file) text n text'
   unfolding file_text
   file_refused h r e {text} {n} {text'} p = rw (lines-refused h r e) (begins_of (refusal_text (number_of r) (place_of r)) text n text' p)
 
-  module _ (k : ℕ) (e : a ≡ Nodes k) where
+  module _ (k : ℕ) (e : a ≡ Ok k) where
     read : (file_refusal file ≡ none) × ((length (lines file) ≡ k) × ((reading file table).buffer ≡ table_of (lines file) ++ drop (3 * k) table))
-    read = read-counted file table k (sym answered ∙ ap readAnswer e)
+    read = read-counted file table k (sym answered ∙ ap answer_of e)
 
     filled : table' ≡ table_of (lines file) ++ drop (3 * k) table
     filled = ap (λ (c : Outcome). c.buffer) q ∙ read.1.1

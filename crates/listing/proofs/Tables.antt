@@ -14,20 +14,19 @@ use Rattle.number.proofs.Stores.{begins_of}
 use Rattle.flat.specs.Code.{most_numbers}
 use Rattle.flat.specs.Check.{code_ok}
 use Rattle.flat.proofs.Decoded.{code-header}
-use Rattle.translator.specs.declared.TranslateAnswer.{TranslateAnswer}
-use Rattle.translator.specs.declared.TranslateAnswer.TheVariants.{Numbers, Refused}
-use Rattle.refusal.specs.Answer.{count}
+use Rattle.std.specs.Prelude.{Result, Ok, Err}
+use Rattle.refusal.specs.Answer.{count, answer_of}
 use Rattle.refusal.specs.Outcome.{outcome}
-use Rattle.translator.specs.Translate.{answer_of, translated_table}
+use Rattle.translator.specs.Translate.{translated_table}
 use Rattle.translator.proofs.Delivered.{is_delivered, delivered_passes}
 use Rattle.listing.specs.Print.{code_text, refusal_text, most_bytes, outcome_text, table_text}
 use Rattle.listing.specs.Steps.{Listable}
 
-module _ (table code : List ℕ) {a : TranslateAnswer} {code' : List ℕ} (t : outcome (answer_of a) code' ≡ translated_table table code) where
-  pub refused-text : (r : Refusal) → a ≡ Refused r → outcome_text (translated_table table code) ≡ refusal_text (number_of r) (place_of r)
+module _ (table code : List ℕ) {a : Result ℕ Refusal} {code' : List ℕ} (t : outcome (answer_of a) code' ≡ translated_table table code) where
+  pub refused-text : (r : Refusal) → a ≡ Err r → outcome_text (translated_table table code) ≡ refusal_text (number_of r) (place_of r)
   refused-text r e = sym (rw e at (ap outcome_text t))
 
-  module _ (n : ℕ) (e : a ≡ Numbers n) where
+  module _ (n : ℕ) (e : a ≡ Ok n) where
     counted : outcome (count n) code' ≡ translated_table table code
     counted = rw e at t
 
@@ -44,11 +43,11 @@ module _ (table code : List ℕ) {a : TranslateAnswer} {code' : List ℕ} (t : o
     is_listable entries text h = record { head = code-header (take n code') (code_passes (words_of table entries)); room = h }
 
 -- the whole call on a table
-module _ (table : List ℕ) {a : TranslateAnswer} {code' : List ℕ} (t : outcome (answer_of a) code' ≡ translated_table table (zeros most_numbers)) {text : List ℕ} {n : ℕ} {text' : List ℕ} where
-  pub table-refused : (r : Refusal) → a ≡ Refused r → Put (refusal_text (number_of r) (place_of r)) text 0 n text' → Begins (table_text table) text n text'
+module _ (table : List ℕ) {a : Result ℕ Refusal} {code' : List ℕ} (t : outcome (answer_of a) code' ≡ translated_table table (zeros most_numbers)) {text : List ℕ} {n : ℕ} {text' : List ℕ} where
+  pub table-refused : (r : Refusal) → a ≡ Err r → Put (refusal_text (number_of r) (place_of r)) text 0 n text' → Begins (table_text table) text n text'
   unfolding table_text
   table-refused r e p = rw (refused-text table (zeros most_numbers) t r e) (begins_of (refusal_text (number_of r) (place_of r)) text n text' p)
 
-  pub table-listed : (k c : ℕ) → a ≡ Numbers k → c ≡ k → Put (code_text (take c code')) text 0 n text' → Begins (table_text table) text n text'
+  pub table-listed : (k c : ℕ) → a ≡ Ok k → c ≡ k → Put (code_text (take c code')) text 0 n text' → Begins (table_text table) text n text'
   unfolding table_text
   table-listed k c e f p = rw (code-text table (zeros most_numbers) t k e, ← f) (begins_of (code_text (take c code')) text n text' p)

@@ -8,11 +8,9 @@ ghost use Rattle.number.specs.Put.{Put, Begins};
 ghost use Rattle.number.specs.Row.{row_bytes};
 ghost use Rattle.listing.specs.Steps.{Rows, Listable};
 
-use column::ReadAnswer;
 use flat::format::{CODE_NUMBERS, HEADER, INSTRUCTIONS, OUTPUTS, WIDTH};
 use number::{COLUMN, put_row};
 use refusal::Refusal;
-use translator::TranslateAnswer;
 use word::index;
 use word::limits::{BEAM, MOST_INSTRUCTIONS, TABLE_NUMBERS};
 
@@ -42,14 +40,11 @@ fn put_lines(numbers: &[u32], width: usize, count: usize, text: &mut [u8], from:
     requires { Rows numbers.now width count text.old from }
     ensures { Put (rows width count numbers.now) text.old from result text.new }
 {
-    let mut left: usize = count;
-    let mut first: usize = 0;
     let mut at: usize = from;
-    while 0 < left {
+    for line in 0..count {
+        let first = width * line;
         let end = first + width;
         at = put_line(&numbers[first..end], text, at);
-        first = end;
-        left -= 1;
     }
     at
 }
@@ -71,7 +66,7 @@ pub fn put_refusal(refusal: Refusal, text: &mut [u8]) -> usize
     requires { row_bytes 2 ≤ length text.old }
     ensures { Put (refusal_text (number_of refusal) (place_of refusal)) text.old 0 result text.new }
 {
-    let numbers = [refusal::number(refusal), refusal::place(refusal)];
+    let numbers = [refusal.number(), refusal.place()];
     put_line(&numbers, text, 0)
 }
 
@@ -83,9 +78,9 @@ fn print_table(table: &[u32], text: &mut [u8]) -> usize
     let mut code = [0u32; CODE_NUMBERS];
     let answer = translator::translate(table, &mut code);
     match answer {
-        TranslateAnswer::Refused(r) => put_refusal(r, text),
-        TranslateAnswer::Numbers(n) => {
-            let count = index(n);
+        Err(refusal) => put_refusal(refusal, text),
+        Ok(numbers) => {
+            let count = index(numbers);
             put_code(&code[..count], text)
         }
     }
@@ -98,9 +93,9 @@ pub fn print(file: &[u8], text: &mut [u8; PRINT_BYTES]) -> usize
     let mut table = [0u32; TABLE_NUMBERS];
     let answer = column::read(file, &mut table);
     match answer {
-        ReadAnswer::Refused(r) => put_refusal(r, text),
-        ReadAnswer::Nodes(n) => {
-            let count = 3 * index(n);
+        Err(refusal) => put_refusal(refusal, text),
+        Ok(nodes) => {
+            let count = 3 * index(nodes);
             print_table(&table[..count], text)
         }
     }

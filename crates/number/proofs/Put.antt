@@ -69,9 +69,9 @@ pub numeral-small : (w : ℕ) → w < 2 ^ 31 → numeral (value w) ≡ decimal w
 unfolding numeral
 numeral-small w h = rw (value-small w h)
 
-pub numeral_large : (w : ℕ) → 2 ^ 31 ≤ w → w < 2 ^ 32 → numeral (value w) ≡ minus ∷ decimal (4294967295 - w + 1)
+pub numeral_large : (w m : ℕ) → 2 ^ 31 ≤ w → w < 2 ^ 32 → m + w ≡ 2 ^ 32 → numeral (value w) ≡ minus ∷ decimal m
 unfolding numeral
-numeral_large w h b = let e : suc (2 ^ 32 - suc w) ≡ 4294967295 - w + 1 = omega arith in rw (value_large w h, e)
+numeral_large w m h b s = let e : suc (2 ^ 32 - suc w) ≡ m = omega arith in rw (value_large w h, e)
 
 minus-first : (line ds : List ℕ) (k n : ℕ) → suc k ≡ n → set (sets line n ds) k minus ≡ sets line k (minus ∷ ds)
 minus-first line ds k n e = sym (set-sets line ds k minus n (omega arith)) ∙ rw (← e)
@@ -86,13 +86,13 @@ module _ (line line₁ line₂ : List ℕ) (from w word at : ℕ) (room : length
       q ∙ rw (a, p) (sym (rw e at c))
 
   pub put-large :
-      2 ^ 31 ≤ word → word < 2 ^ 32 → at ≡ from + w - length (decimal (4294967295 - word + 1)) →
-      line₁ ≡ sets line (from + w - length (decimal (4294967295 - word + 1))) (decimal (4294967295 - word + 1)) →
+      (m : ℕ) → 2 ^ 31 ≤ word → word < 2 ^ 32 → m + word ≡ 2 ^ 32 → at ≡ from + w - length (decimal m) →
+      line₁ ≡ sets line (from + w - length (decimal m)) (decimal m) →
       line₂ ≡ sets (set line₁ (at - 1) minus) from (replicate (at - 1 - from) space) → line₂ ≡ sets line from (column w (value word))
-  put-large l b a p q =
-      let e : numeral (value word) ≡ minus ∷ decimal (4294967295 - word + 1) = numeral_large word l b in
+  put-large m l b s a p q =
+      let e : numeral (value word) ≡ minus ∷ decimal m = numeral_large word m l b s in
       let c = put-column line from w (value word) room in
-      let d : List ℕ = decimal (4294967295 - word + 1) in
+      let d : List ℕ = decimal m in
       let r : suc (length d) ≤ w = rw e at room in
       let k : at - 1 ≡ from + w - suc (length d) = omega arith in
       q

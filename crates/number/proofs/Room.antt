@@ -1,5 +1,5 @@
 -- Words as 32-bit numbers: one to one, and the room that they need.
-use Prim.Native.Nat.{ℕ, suc, ◌+◌, ◌-◌, ◌%◌, ◌^◌, ◌≤◌, ◌<◌}
+use Prim.Native.Nat.{ℕ, suc, ◌-◌, ◌%◌, ◌^◌, ◌≤◌, ◌<◌}
 use mathlib.Core.Path.{◌≡◌, ◌∙◌}
 use mathlib.Core.Bool.{true}
 use native.Mathlib.Decide.{dec_lt}
@@ -39,7 +39,7 @@ numeral-room w h = go (dec_lt w (2 ^ 31))
     go (yes s) = rw (numeral-small w s) (omega (arith, decimal-length w 10 (omega arith) (omega arith)))
     go (no l) =
         let b : 2 ^ 31 ≤ w = omega arith in
-        rw (numeral_large w b h) (omega (arith, decimal-length (4294967295 - w + 1) 10 (omega arith) (omega arith)))
+        rw (numeral_large w (2 ^ 32 - w) b h (omega arith)) (omega (arith, decimal-length (2 ^ 32 - w) 10 (omega arith) (omega arith)))
 
 -- every word has room in 12 columns
 pub word_room : (w : ℕ) → w < 2 ^ 32 → length (numeral (value w)) ≤ 12

@@ -12,10 +12,11 @@ fn put_digits(line: &mut [u8], end: usize, n: u32) -> usize
 {
     let mut at: usize = end;
     let mut rest: u32 = n;
+    // a `for` is no plainer: how many digits there are shows only once all are put
     while rest > 9 {
         at -= 1;
         line[at] = b'0' + (rest % 10) as u8;
-        rest = rest / 10;
+        rest /= 10;
     }
     at -= 1;
     line[at] = b'0' + rest as u8;
@@ -27,11 +28,7 @@ fn put_spaces(line: &mut [u8], from: usize, end: usize)
     requires { (from ≤ end) × (end ≤ length line.old) }
     ensures { line.new ≡ sets line.old from (replicate (end - from) space_byte) }
 {
-    let mut at: usize = end;
-    while at > from {
-        at -= 1;
-        line[at] = b' ';
-    }
+    line[from..end].fill(b' ');
 }
 
 // A word's number in the column of this width that begins at `from`.
@@ -45,7 +42,7 @@ pub fn put_number(line: &mut [u8], from: usize, width: usize, word: u32)
         put_spaces(line, from, at);
         return;
     }
-    let first = put_digits(line, end, 4294967295 - word + 1);
+    let first = put_digits(line, end, word.wrapping_neg());
     let at = first - 1;
     line[at] = b'-';
     put_spaces(line, from, at);

@@ -10,10 +10,3 @@ pub use columns::put_number;
 pub use numerals::put_numeral;
 pub use reading::read_number;
 pub use rows::{COLUMN, put_row};
-
-// A column as read: the word of a 32-bit number of the form, or no such number.
-#[derive(Drop)]
-pub enum Number {
-    Word(u32),
-    Malformed,
-}

@@ -12,8 +12,9 @@ fn decimal_bytes(n: u32) -> usize
 {
     let mut count: usize = 1;
     let mut rest: u32 = n;
+    // a `for` is no plainer: the digits end where less than ten is left
     while rest > 9 {
-        rest = rest / 10;
+        rest /= 10;
         count += 1;
     }
     count
@@ -26,7 +27,7 @@ fn numeral_bytes(word: u32) -> usize
     if word < 2147483648 {
         return decimal_bytes(word);
     }
-    1 + decimal_bytes(4294967295 - word + 1)
+    1 + decimal_bytes(word.wrapping_neg())
 }
 
 // The numeral of a word and a byte behind it, from `from` on; gives where the next begins.

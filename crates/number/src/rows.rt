@@ -13,10 +13,8 @@ pub fn put_row(numbers: &[u32], line: &mut [u8])
     requires { length line.old ≡ row_bytes (length numbers.now) }
     ensures { line.new ≡ row (map value numbers.now) }
 {
-    let mut j: usize = 0;
-    while j < numbers.len() {
-        put_number(line, COLUMN * j, COLUMN, numbers[j]);
-        j += 1;
+    for (j, number) in numbers.iter().enumerate() {
+        put_number(line, COLUMN * j, COLUMN, *number);
     }
-    line[COLUMN * j] = b'\n';
+    line[COLUMN * numbers.len()] = b'\n';
 }

@@ -14,7 +14,8 @@ use Rattle.number.proofs.Stores.{sets_append}
 use Rattle.player.specs.declared.samples.Stop.{Stop}
 use Rattle.player.specs.declared.samples.Stop.TheVariants.{Full, Rest, Control as AtControl, Malformed as AtMalformed}
 use Rattle.player.specs.declared.samples.Kind.{Kind}
-use Rattle.player.specs.declared.samples.Kind.TheVariants.{Tick, Control, Malformed}
+use Rattle.player.specs.declared.samples.Kind.TheVariants.{Tick, Control}
+use Rattle.std.specs.Prelude.{Option as StdOption, Some, None}
 use Rattle.player.specs.Samples.{words, word_in, said, text_of, Start, stopped, line_then, no_more, starting, BlockRead, block_read, reads}
 use Rattle.player.specs.Samples.Said.{inputs, control, malformed}
 use Rattle.player.specs.Promises.{kind_of}
@@ -85,21 +86,21 @@ module _ (text : List ℕ) (n : ℕ) (samples₀ samples : List ℕ) (at ticks n
             starting-line n (256 - ticks) (length samples - next) (drop at text) more (omega (arith, length-drop at text))
             ∙ rw (line-text, a, b, d, drop-drop (end + 1 - at) at text, s)
 
-        module _ (k : Kind) (p : k ≡ kind_of (said n (take (end - at) (drop at text)))) where
-          pub ends_malformed : k ≡ Malformed → block_read (record { ticks = ticks; bytes = at; stop = AtMalformed }) samples ≡ reads n text samples₀
+        module _ (k : StdOption Kind) (p : k ≡ kind_of (said n (take (end - at) (drop at text)))) where
+          pub ends_malformed : k ≡ None → block_read (record { ticks = ticks; bytes = at; stop = AtMalformed }) samples ≡ reads n text samples₀
           ends_malformed q =
               let m : said n (take (end - at) (drop at text)) ≡ malformed = kind-malformed _ k p q in
               ends 0 AtMalformed (line_first ∙ rw m) at (omega arith)
 
-          pub ends_control : (slot value : ℕ) → k ≡ Control slot value → block_read (record { ticks = ticks; bytes = end + 1; stop = AtControl slot value }) samples ≡ reads n text samples₀
+          pub ends_control : (slot value : ℕ) → k ≡ Some (Control slot value) → block_read (record { ticks = ticks; bytes = end + 1; stop = AtControl slot value }) samples ≡ reads n text samples₀
           ends_control slot value q =
               let m : said n (take (end - at) (drop at text)) ≡ control slot value = kind-control _ k slot value p q in
               ends (end + 1 - at) (AtControl slot value) (line_first ∙ rw m) (end + 1) (omega arith)
 
-          pub tick-room : k ≡ Tick → next + length (words (take (end - at) (drop at text))) ≤ length samples
+          pub tick-room : k ≡ Some Tick → next + length (words (take (end - at) (drop at text))) ≤ length samples
           tick-room q = let t = kind-tick n (take (end - at) (drop at text)) k p q in omega (arith, t.count, i.filled)
 
-          pub one-tick : (samples' : List ℕ) → k ≡ Tick → samples' ≡ sets samples next (map word_in (words (take (end - at) (drop at text)))) → Reading text n samples₀ samples' (end + 1) (ticks + 1) (next + n)
+          pub one-tick : (samples' : List ℕ) → k ≡ Some Tick → samples' ≡ sets samples next (map word_in (words (take (end - at) (drop at text)))) → Reading text n samples₀ samples' (end + 1) (ticks + 1) (next + n)
           unfolding flatten
           one-tick samples' q w =
               let line : List ℕ = take (end - at) (drop at text) in

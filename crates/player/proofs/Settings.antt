@@ -1,96 +1,71 @@
 -- A control's line: what its two words behind `control` say.
-use Prim.Native.Nat.{ℕ, ◌-◌, ◌≤◌, ◌<◌}
-use mathlib.Core.Path.{◌≡◌, refl, sym, ap, ◌∙◌}
-use mathlib.Core.List.{List, [], ◌∷◌}
+use Rattle.std.proofs.Common.{◌≡◌, ℕ, ◌≤◌, ◌<◌, List, [], ◌∷◌, refl, arith, true, false}
 use mathlib.Core.Option.{Option, none, some}
-use native.Mathlib.Decide.{dec_lt}
-use native.Mathlib.Omega.{arith}
 use borrow.Author.Tests.{lt-ltb, le-ltb}
-use lib.Dec.{ltb}
 use lib.IntN.{ℤ}
-use lib.ListN.{drop}
-use Rattle.word.specs.Choice.{pick}
+use Rattle.std.specs.Prelude.{Option as StdOption, Some, None, is_some}
+use Rattle.std.specs.Borrow.{Bor}
 use Rattle.word.specs.Word.{low}
-use Rattle.number.specs.declared.Number.{Number}
-use Rattle.number.specs.declared.Number.TheVariants.{Word, Malformed}
 use Rattle.number.specs.Number.{number_in}
 use Rattle.number.specs.Promises.{found}
-use Rattle.number.proofs.Parse.{number-empty}
-use Rattle.player.specs.declared.samples.Span.{Span}
-use Rattle.player.specs.declared.samples.Kind.TheVariants.{Control, Malformed as Other}
+use Rattle.player.specs.declared.samples.Kind.TheVariants.{Control}
 use Rattle.player.specs.Samples.{words, setting, control_said}
-use Rattle.player.specs.Samples.Said.{control, malformed}
-use Rattle.player.specs.Promises.{FirstWord, kind_of}
-use Rattle.player.proofs.Lines.{word_at}
+use Rattle.player.specs.Promises.{FirstWord, Word, kind_of}
 
-found_none : (o : Option ℤ) (x : Number) → x ≡ Malformed → x ≡ found o → o ≡ none
-found_none none x p q = refl
-found_none (some z) x p q = let e : ◌≡◌ {A = ℕ} 0 1 = cc in absurd (omega arith)
+pub no_slot : (line : List ℕ) → words line ≡ [] → None ≡ kind_of (control_said (words line))
+no_slot line e = rw e
 
-setting_of : (o p : Option ℤ) (x y : Number) (s v : ℕ) → x ≡ Word s → x ≡ found o → y ≡ Word v → y ≡ found p → setting o p ≡ pick (ltb s 16) (control s v) malformed
-setting_of none p x y s v e f g h = let z : ◌≡◌ {A = ℕ} 0 1 = cc in absurd (omega arith)
-setting_of (some a) none x y s v e f g h = let z : ◌≡◌ {A = ℕ} 0 1 = cc in absurd (omega arith)
-setting_of (some a) (some b) x y s v e f g h =
-    let k : low a ≡ s = cc in
-    let l : low b ≡ v = cc in
-    rw (k, l)
+module _ (line first rest : List ℕ) (a : Word line first rest) where
+  pub no_value : words rest ≡ [] → None ≡ kind_of (control_said (words line))
+  no_value e = rw (a.words-are, e)
 
-setting-none : (o : Option ℤ) → setting o none ≡ malformed
-setting-none none = refl
-setting-none (some z) = refl
-
-slot-none : (w : List ℕ) (ws : List (List ℕ)) → number_in w ≡ none → control_said (w ∷ ws) ≡ malformed
-slot-none w [] e = refl
-slot-none w (v ∷ []) e = rw e
-slot-none w (v ∷ (u ∷ us)) e = refl
-
-value_none : (w v : List ℕ) (ws : List (List ℕ)) → number_in v ≡ none → control_said (w ∷ (v ∷ ws)) ≡ malformed
-value_none w v [] e = rw e (setting-none (number_in w))
-value_none w v (u ∷ us) e = refl
-
--- a span whose text is read as a number is a word
-module _ (line : List ℕ) (at : ℕ) (r : Span) (p : FirstWord line at r) (x : Number) (f : x ≡ found (number_in (word_at line r))) where
-  number_word : (n : ℕ) → x ≡ Word n → words (drop at line) ≡ word_at line r ∷ words (drop r.end line)
-  number_word n e = go (dec_lt r.begin r.end)
-    where
-      go : Dec (r.begin < r.end) → words (drop at line) ≡ word_at line r ∷ words (drop r.end line)
-      go (yes h) = p.some h
-      go (no h) =
-          let k : r.end - r.begin ≡ 0 = omega (arith, p.order) in
-          let w : number_in (word_at line r) ≡ none = rw k number-empty in
-          let y : x ≡ Malformed = f ∙ ap found w in
-          let z : ◌≡◌ {A = ℕ} 0 1 = cc in
-          absurd (omega arith)
-
-  pub no_slot : x ≡ Malformed → Other ≡ kind_of (control_said (words (drop at line)))
-  no_slot e = go (dec_lt r.begin r.end)
-    where
-      go : Dec (r.begin < r.end) → Other ≡ kind_of (control_said (words (drop at line)))
-      go (yes h) = rw (p.some h) (ap kind_of (sym (slot-none (word_at line r) (words (drop r.end line)) (found_none (number_in (word_at line r)) x e f))))
-      go (no h) = rw (p.none (omega (arith, p.order)))
-
-  module _ (n : ℕ) (e : x ≡ Word n) (r2 : Span) (p2 : FirstWord line r.end r2) (y : Number) (g : y ≡ found (number_in (word_at line r2))) where
-    pub no_value : y ≡ Malformed → Other ≡ kind_of (control_said (words (drop at line)))
-    no_value d = rw (number_word n e) (go (dec_lt r2.begin r2.end))
+  module _ (second behind : List ℕ) (b : Word rest second behind) (r : StdOption (Bor (List ℕ) × Bor (List ℕ))) (f : FirstWord behind r) where
+    pub third-word : is_some r ≡ true → None ≡ kind_of (control_said (words line))
+    third-word e = go r f e
       where
-        go : Dec (r2.begin < r2.end) → Other ≡ kind_of (control_said (word_at line r ∷ words (drop r.end line)))
-        go (yes h) = rw (p2.some h) (ap kind_of (sym (value_none (word_at line r) (word_at line r2) (words (drop r2.end line)) (found_none (number_in (word_at line r2)) y d g))))
-        go (no h) = rw (p2.none (omega (arith, p2.order)))
+        go : (r : StdOption (Bor (List ℕ) × Bor (List ℕ))) → FirstWord behind r → is_some r ≡ true → None ≡ kind_of (control_said (words line))
+        go None f e = cc
+        go (Some p) f e = rw (a.words-are, b.words-are, f.words-are)
 
--- two spans whose texts are read as numbers, and what follows them
-module _ (line : List ℕ) (at : ℕ) (r1 r2 r3 : Span) (p1 : FirstWord line at r1) (p2 : FirstWord line r1.end r2) (p3 : FirstWord line r2.end r3) where
-  module _ (x y : Number) (s v : ℕ) (e : x ≡ Word s) (f : x ≡ found (number_in (word_at line r1))) (d : y ≡ Word v) (g : y ≡ found (number_in (word_at line r2))) where
-    two : words (drop at line) ≡ word_at line r1 ∷ (word_at line r2 ∷ words (drop r2.end line))
-    two = number_word line at r1 p1 x f s e ∙ ap {B = List (List ℕ)} (λ ws. word_at line r1 ∷ ws) (number_word line r1.end r2 p2 y g v d)
+    module _ (e : is_some r ≡ false) where
+      two : control_said (words line) ≡ setting (number_in first) (number_in second)
+      two = rw (a.words-are, b.words-are) (go r f e)
+        where
+          go : (r : StdOption (Bor (List ℕ) × Bor (List ℕ))) → FirstWord behind r → is_some r ≡ false → control_said (first ∷ (second ∷ words behind)) ≡ setting (number_in first) (number_in second)
+          go None f e = rw f
+          go (Some p) f e = cc
 
-    pub three-words : (r3.begin ≡ r3.end → ⊥) → Other ≡ kind_of (control_said (words (drop at line)))
-    three-words n = let h : r3.begin < r3.end = omega (arith, p3.order) in rw (two, p3.some h)
+      pub slot-none : None ≡ found (number_in first) → None ≡ kind_of (control_said (words line))
+      slot-none p = rw two (go (number_in first) (number_in second) p)
+        where
+          go : (s v : Option ℤ) → None ≡ found s → None ≡ kind_of (setting s v)
+          go none v p = refl
+          go (some z) v p = cc
 
-    only_two : r3.begin ≡ r3.end → control_said (words (drop at line)) ≡ pick (ltb s 16) (control s v) malformed
-    only_two z = rw (two, p3.none z) (setting_of (number_in (word_at line r1)) (number_in (word_at line r2)) x y s v e f d g)
+      pub value-none : None ≡ found (number_in second) → None ≡ kind_of (control_said (words line))
+      value-none p = rw two (go (number_in first) (number_in second) p)
+        where
+          go : (s v : Option ℤ) → None ≡ found v → None ≡ kind_of (setting s v)
+          go none v p = refl
+          go (some z) none p = refl
+          go (some z) (some y) p = cc
 
-    pub large_slot : r3.begin ≡ r3.end → 15 < s → Other ≡ kind_of (control_said (words (drop at line)))
-    large_slot z h = rw (only_two z, le-ltb s 16 (omega arith))
+      module _ (slot value : ℕ) (p : Some slot ≡ found (number_in first)) (q : Some value ≡ found (number_in second)) where
+        pub large_slot : 15 < slot → None ≡ kind_of (control_said (words line))
+        large_slot h = rw two (go (number_in first) (number_in second) p q)
+          where
+            go : (s v : Option ℤ) → Some slot ≡ found s → Some value ≡ found v → None ≡ kind_of (setting s v)
+            go none v p q = cc
+            go (some z) none p q = refl
+            go (some z) (some y) p q = let k : slot ≡ low z = cc in rw (le-ltb (low z) 16 (omega arith))
 
-    pub is-setting : r3.begin ≡ r3.end → s ≤ 15 → Control s v ≡ kind_of (control_said (words (drop at line)))
-    is-setting z h = rw (only_two z, lt-ltb s 16 (omega arith))
+        pub is-setting : slot ≤ 15 → Some (Control slot value) ≡ kind_of (control_said (words line))
+        is-setting h = rw two (go (number_in first) (number_in second) p q)
+          where
+            go : (s v : Option ℤ) → Some slot ≡ found s → Some value ≡ found v → Some (Control slot value) ≡ kind_of (setting s v)
+            go none v p q = cc
+            go (some z) none p q = cc
+            go (some z) (some y) p q =
+                let k : slot ≡ low z = cc in
+                let l : value ≡ low y = cc in
+                rw (lt-ltb (low z) 16 (omega arith), k, l)

@@ -3,7 +3,7 @@ use Prim.Native.Nat.{ℕ, zero, suc, ◌+◌, ◌-◌, ◌*◌, ◌≤◌, ◌<�
 use mathlib.Core.Path.{◌≡◌, refl, sym, ap, ◌∙◌}
 use mathlib.Core.List.{List, [], ◌∷◌, ◌++◌, append_assoc}
 use native.Mathlib.Numerals.{add-one}
-use native.Mathlib.Nat.{suc-mul, min-le_left, mul-le-mul_left, mul-le-mul_right}
+use native.Mathlib.Nat.{min-le_left, mul-le-mul_left, mul-le-mul_right}
 use native.Mathlib.Omega.{arith}
 use borrow.Author.Tests.{le-leb, lt-leb}
 use lib.ListN.{length, get_or, set, take, drop, length-append, length-take, drop_of_length-le}
@@ -94,14 +94,6 @@ module _ (ws : List ℕ) (m k first : ℕ) {shown text₀ : List ℕ} {from : �
 
   pub ticks-put : k ≤ 0 → from + length shown ≤ length text₀ → Put shown text₀ from at text
   ticks-put h r = let e : k ≡ 0 = omega arith in filling_end r (rw e at p)
-
--- the numbers of the ticks that are left
-pub ticks_fit : (k m first n : ℕ) → 0 < k → first + k * m ≤ n → (first + m ≤ n) × (first + m + (k - 1) * m ≤ n)
-ticks_fit zero m first n h f = absurd (omega arith)
-ticks_fit (suc k) m first n h f =
-    let e : suc k * m ≡ k * m + m = suc-mul k m in
-    let z : suc k - 1 ≡ k = omega arith in
-    (omega arith, rw z (omega arith))
 
 -- a block of ticks, which has room, or one that is too large
 pub block-fits : (m k n : ℕ) → m ≤ 32 → k ≤ 256 → 8192 ≤ n → k * m ≤ n

@@ -1,19 +1,22 @@
 -- The words of a line, one after another.
-use Prim.Native.Nat.{ℕ, ◌+◌, ◌-◌, ◌≤◌, ◌<◌}
+use Prim.Native.Nat.{ℕ, zero, suc, ◌+◌, ◌≤◌, ◌<◌}
 use mathlib.Core.Path.{◌≡◌, refl, ap, ◌∙◌}
 use mathlib.Core.Bool.{Bool, true, false}
 use mathlib.Core.List.{List, [], ◌∷◌}
+use mathlib.Core.Logic.{◌≢◌}
 use native.Mathlib.Omega.{arith}
 use borrow.Author.Tests.{eq-eqb, ne_eqb}
 use lib.Dec.{eqb}
-use lib.ListN.{length, get_or, drop, drop_of_length-le}
-use lib.Seq.{drop-drop}
+use lib.ListN.{length, get_or, take, drop, length-drop}
+use lib.Seq.{drop-length}
 use Rattle.number.specs.Number.{space}
 use Rattle.column.specs.Line.{before}
 use Rattle.number.proofs.Scan.{drop_at}
 use Rattle.player.specs.Samples.{up_to, pieces, non_empty, words}
-use Rattle.player.specs.Promises.{FirstByte, FirstWord}
-use Rattle.player.proofs.UpTo.{up_to_more, up_to_take}
+use Rattle.player.specs.Promises.{FirstByte, Word}
+use Rattle.number.specs.Promises.{Spaces}
+use Rattle.std.specs.Prelude.{Option as StdOption, unwrap_or}
+use Rattle.player.proofs.UpTo.{up_to_take, byte_found}
 
 -- the first piece, and what follows it
 record Pieces (text : List ℕ) : Type 0 where
@@ -36,38 +39,26 @@ word_first b bs n =
     let p = pieces-first bs in
     rw (ne_eqb b space n, p.split) (ap {B = List (List ℕ)} (λ ls. (b ∷ up_to space bs) ∷ ls) p.rest)
 
-module _ (line : List ℕ) (at : ℕ) where
-  pub words-none : length line ≤ at → words (drop at line) ≡ []
-  unfolding words
-  words-none h = rw (drop_of_length-le line h)
+words-skip : (line : List ℕ) (begin : ℕ) → begin ≤ length line → ((k : ℕ) → k < begin → get_or line k 0 ≡ space) → words line ≡ words (drop begin line)
+unfolding words
+words-skip line zero h before = refl
+words-skip [] (suc begin) h before = absurd (omega arith)
+words-skip (b ∷ bs) (suc begin) h before = rw (eq-eqb b space (before 0 (omega arith))) (words-skip bs begin (omega arith) (λ k l. before (suc k) (omega arith)))
 
-  pub words-space : at < length line → get_or line at 0 ≡ space → words (drop at line) ≡ words (drop (at + 1) line)
-  unfolding words
-  words-space h e = rw (drop_at line at h, eq-eqb (get_or line at 0) space e)
+pub no_word : (line : List ℕ) → Spaces line (length line) → words line ≡ []
+unfolding words
+no_word line s = words-skip line (length line) (omega arith) s.all ∙ rw (drop-length line)
 
-  pub words_word : at < length line → (get_or line at 0 ≡ space → ⊥) → words (drop at line) ≡ up_to space (drop at line) ∷ words (drop (length (up_to space (drop at line))) (drop at line))
-  words_word h n = rw (drop_at line at h) (word_first (get_or line at 0) (drop (at + 1) line) n)
-
--- the first word from `at` on begins at `begin`, past spaces
-module _ (line : List ℕ) (at begin : ℕ) (from : at ≤ begin) (within : begin ≤ length line) (same : words (drop at line) ≡ words (drop begin line)) where
-  pub no_word : length line ≤ begin → FirstWord line at (record { begin = begin; end = begin })
-  no_word h = record {
-    from = from;
-    order = omega arith;
-    within = within;
-    none = λ e. same ∙ words-none line begin h;
-    some = λ g. absurd (omega arith);
-  }
-
-  pub a_word : (end : ℕ) → begin < length line → (get_or line begin 0 ≡ space → ⊥) → FirstByte line begin space end → FirstWord line at (record { begin = begin; end = end })
-  a_word end h n q =
-      let e : end ≡ begin + length (up_to space (drop begin line)) = q.is in
-      let m : length (up_to space (drop begin line)) ≡ 1 + length (up_to space (drop (begin + 1) line)) = up_to_more space line begin h n in
-      let k : end - begin ≡ length (up_to space (drop begin line)) = omega arith in
-      record {
-        from = from;
-        order = q.from;
-        within = q.within;
-        none = λ g. absurd (omega arith);
-        some = λ g. rw (k, e) (same ∙ words_word line begin h n ∙ (rw (drop-drop (length (up_to space (drop begin line))) begin line) (ap {B = List (List ℕ)} (λ l. l ∷ words (drop (begin + length (up_to space (drop begin line))) line)) (up_to_take space (drop begin line)))));
-      }
+pub a_word : (line : List ℕ) (begin : ℕ) (r : StdOption ℕ) → begin < length line → Spaces line begin → FirstByte (drop begin line) space r →
+    Word line (take (unwrap_or r (length (drop begin line))) (drop begin line)) (drop (unwrap_or r (length (drop begin line))) (drop begin line))
+a_word line begin r h s f =
+    let rest : List ℕ = drop begin line in
+    let e : unwrap_or r (length rest) ≡ length (up_to space rest) = byte_found space rest r f in
+    let d : rest ≡ get_or line begin 0 ∷ drop (begin + 1) line = drop_at line begin h in
+    let n : get_or line begin 0 ≢ space = s.end h in
+    let w : words rest ≡ up_to space rest ∷ words (drop (length (up_to space rest)) rest) = rw d (word_first (get_or line begin 0) (drop (begin + 1) line) n) in
+    let m : length (up_to space rest) ≡ suc (length (up_to space (drop (begin + 1) line))) = rw (d, ne_eqb (get_or line begin 0) space n) in
+    record {
+      words-are = rw e (words-skip line begin s.within s.all ∙ w ∙ ap {B = List (List ℕ)} (λ l. l ∷ words (drop (length (up_to space rest)) rest)) (up_to_take space rest));
+      shorter = rw e (omega (arith, length-drop (length (up_to space rest)) rest, length-drop begin line));
+    }

@@ -1,26 +1,34 @@
 -- What the helper functions promise. No entry's contract cites these.
-use Rattle.std.specs.Prelude.{ℕ, ◌+◌, ◌-◌, ◌≤◌, ◌<◌, ◌≡◌, List, [], ◌∷◌, length, take, drop}
-use Rattle.player.specs.Samples.{Said, inputs, control, malformed, up_to, words}
+use Rattle.std.specs.Prelude.{ℕ, ◌<◌, ◌≡◌, ◌≢◌, true, false, drop, List, [], ◌∷◌, Option, Some, None, MatchOption, length, get_or}
+use Rattle.player.specs.Samples.{Said, inputs, control, malformed, control_word, words}
+use Rattle.word.specs.Tick.{head_or}
+use Rattle.number.specs.Number.{same}
+use Rattle.std.specs.Borrow.{Bor}
 use Rattle.player.specs.declared.samples.Kind.{Kind}
-use Rattle.player.specs.declared.samples.Kind.TheVariants.{Tick, Control, Malformed}
-use Rattle.player.specs.declared.samples.Span.{Span}
+use Rattle.player.specs.declared.samples.Kind.TheVariants.{Tick, Control}
 
--- the first such byte from `at` on stands at r, or r is the end
-pub record FirstByte (text : List ℕ) (at byte r : ℕ) : Type 0 where
-  pub from : at ≤ r
-  pub within : r ≤ length text
-  pub is : r ≡ at + length (up_to byte (drop at text))
+-- where the first such byte stands
+abbrev pub FirstByte : List ℕ → ℕ → Option ℕ → Type 0
+FirstByte text byte r =
+    MatchOption r ((k : ℕ) → k < length text → get_or text k 0 ≢ byte)
+    (λ p. (p < length text) × (((k : ℕ) → k < p → get_or text k 0 ≢ byte) × (get_or text p 0 ≡ byte)))
 
--- the first word from `at` on lies in this span, which is empty if there is none
-pub record FirstWord (line : List ℕ) (at : ℕ) (r : Span) : Type 0 where
-  pub from : at ≤ r.begin
-  pub order : r.begin ≤ r.end
-  pub within : r.end ≤ length line
-  pub none : r.begin ≡ r.end → words (drop at line) ≡ []
-  pub some : r.begin < r.end → words (drop at line) ≡ take (r.end - r.begin) (drop r.begin line) ∷ words (drop r.end line)
+-- the first word of a line, and the line behind it
+pub record Word (line word rest : List ℕ) : Type 0 where
+  pub words-are : words line ≡ word ∷ words rest
+  pub shorter : length rest < length line
+
+abbrev pub FirstWord : List ℕ → Option (Bor (List ℕ) × Bor (List ℕ)) → Type 0
+FirstWord line r = MatchOption r (words line ≡ []) (λ p. Word line p.0.now p.1.now)
+
+-- what follows the first word of a line, where it is `control`
+abbrev pub ControlLine : List ℕ → Option (Bor (List ℕ)) → Type 0
+ControlLine line r =
+    MatchOption r (same (head_or [] (words line)) control_word ≡ false)
+    (λ rest. (same (head_or [] (words line)) control_word ≡ true) × (words rest.now ≡ drop 1 (words line)))
 
 -- what a line says, without the inputs of a tick
-abbrev pub kind_of : Said → Kind
-kind_of (inputs xs) = Tick
-kind_of (control slot value) = Control slot value
-kind_of malformed = Malformed
+abbrev pub kind_of : Said → Option Kind
+kind_of (inputs xs) = Some Tick
+kind_of (control slot value) = Some (Control slot value)
+kind_of malformed = None

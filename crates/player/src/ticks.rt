@@ -18,10 +18,8 @@ fn put_tick(outputs: &[u32], text: &mut [u8], from: usize) -> usize
     }
     let last = outputs.len() - 1;
     let mut at: usize = from;
-    let mut j: usize = 0;
-    while j < last {
+    for j in 0..last {
         at = put_numeral(outputs[j], b' ', text, at);
-        j += 1;
     }
     put_numeral(outputs[last], b'\n', text, at)
 }
@@ -31,14 +29,12 @@ fn put_lines(samples: &[u32], ticks: usize, outputs: usize, text: &mut [u8]) -> 
     requires { (ticks * outputs ≤ length samples.now) × ((outputs ≤ widest) × (384 * ticks ≤ length text.old)) }
     ensures { Put (ticks_text outputs ticks samples.now) text.old 0 result text.new }
 {
-    let mut left: usize = ticks;
-    let mut first: usize = 0;
     let mut at: usize = 0;
-    while 0 < left {
+    // chunks would be no plainer: there are none of a size of 0, the outputs of some circuits
+    for tick in 0..ticks {
+        let first = outputs * tick;
         let end = first + outputs;
         at = put_tick(&samples[first..end], text, at);
-        first = end;
-        left -= 1;
     }
     at
 }

@@ -13,7 +13,8 @@ use word::limits::{BEAM, NODES, PROBES};
 // A row: its count of probes, and two numbers for each, its place in the list and its output.
 const ROW: usize = 1 + 2 * PROBES;
 
-// A mark for each node, its first probe, and a row for each probe. Each is a byte: every call clears them.
+// A mark for each node, its first probe, and a row for each probe. Each is a byte: every call clears them, and a mark of 0
+// is none. One array, of whose bytes `Marked` and `Clear` speak.
 pub const MARKS: usize = NODES + ROW * PROBES;
 
 // The first probe on a node: the one that is marked, or else k.
@@ -56,13 +57,11 @@ pub fn mark(probes: &[u32], marks: &mut [u8; MARKS])
     ensures { Marked probes.now (length probes.now / 2) marks.new }
 {
     let count = probes.len() / 2;
-    let mut k: usize = 0;
-    while k < count {
+    for k in 0..count {
         let node = probes[2 * k] as usize;
         let f = first_on(marks, node, k);
         let n = count_of(marks, f);
         enter(marks, node, f, n, k, probes[2 * k + 1]);
-        k += 1;
     }
 }
 
@@ -87,9 +86,7 @@ pub fn note(marks: &[u8; MARKS], node: usize, y: [u32; BEAM], latest: &mut [u32]
     }
     let count = count_of(marks, mark - 1);
     let at = NODES + ROW * (mark - 1);
-    let mut i: usize = 0;
-    while i < count {
+    for i in 0..count {
         show(marks, at + 1 + 2 * i, &y, latest);
-        i += 1;
     }
 }

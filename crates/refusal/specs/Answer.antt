@@ -1,5 +1,5 @@
 -- What an entry answers, in the document's numbers: the counts that the call calls for, or a refusal.
-use Rattle.std.specs.Prelude.{ℕ, List, [], ◌∷◌, ℤ, pos}
+use Rattle.std.specs.Prelude.{ℕ, List, [], ◌∷◌, ℤ, pos, Result, Ok, Err}
 use Rattle.refusal.specs.declared.Refusal.{Refusal}
 use Rattle.refusal.specs.Refusals.{number_of, place_of, no_place}
 
@@ -15,6 +15,11 @@ count n = counts (n ∷ [])
 -- the answer that a refusal stands for
 abbrev pub refusal_of : Refusal → Answer
 refusal_of r = refused (number_of r) (place_of r)
+
+-- what a call answers that counts one thing or is refused
+abbrev pub answer_of : Result ℕ Refusal → Answer
+answer_of (Ok n) = count n
+answer_of (Err r) = refusal_of r
 
 -- refusal n at a line or node, and one without a place
 abbrev pub refused_at : ℕ → ℕ → Answer

@@ -1,5 +1,5 @@
 -- "A refusal is its number and a place: the line or node for 1 to 9, else -1"; E7: 16 "with the node as its place".
-use Rattle.std.specs.Prelude.{ℕ, suc, ◌-◌, ◌%◌, ◌^◌, ℤ, pos, negsuc}
+use Rattle.std.specs.Prelude.{ℕ, ℤ, pos, negsuc, Option, Some, None}
 use Rattle.refusal.specs.declared.Refusal.{Refusal}
 use Rattle.refusal.specs.declared.Refusal.TheVariants.{MalformedLine, WrongNodeNumber, WrongNodeCount, UnknownKind, WrongField, WrongChild, NoArityRule, TooWide, LooseNode, TooManyInstructions, TooManyCells, ShortBuffer, WrongCode, WrongBlock, WrongProbes, EmptyFeedback, TooManyJoined}
 
@@ -45,7 +45,7 @@ place_of WrongProbes = no_place
 place_of (EmptyFeedback p) = pos p
 place_of TooManyJoined = no_place
 
--- the word that stands for a place: a line or node is one already
-abbrev pub place_word : ℤ → ℕ
-place_word (pos p) = p
-place_word (negsuc n) = 2 ^ 32 - suc (n % 2 ^ 32)
+-- the place that a refusal carries, or none
+abbrev pub carried_place : Option ℕ → ℤ
+carried_place (Some p) = pos p
+carried_place None = no_place

@@ -3,10 +3,10 @@
 
 ghost use Rattle.std.specs.Prelude.{◌≡◌};
 ghost use Rattle.word.specs.Word.{low};
-ghost use Rattle.refusal.specs.Refusals.{number_of, place_of, place_word};
+ghost use Rattle.refusal.specs.Refusals.{number_of, place_of, carried_place};
 
 // The place of the first nine is a line of a column file or a node of a table, that of 16 a node.
-#[derive(Clone, Copy)]
+#[derive(Clone, Copy, Debug, PartialEq, Eq)]
 pub enum Refusal {
     // 1: a line that is not 41 bytes, or a column that is no 32-bit number of the form
     MalformedLine(u32),
@@ -44,62 +44,64 @@ pub enum Refusal {
     TooManyJoined,
 }
 
-// -1, for a refusal without a place.
+// The word of -1, the place of a refusal that has none.
 const NO_PLACE: u32 = 4294967295;
 
-// The document's number of a refusal.
-pub fn number(refusal: Refusal) -> u32
-    ensures { result ≡ number_of refusal }
-{
-    match refusal {
-        Refusal::MalformedLine(_) => 1,
-        Refusal::WrongNodeNumber(_) => 2,
-        Refusal::WrongNodeCount(_) => 3,
-        Refusal::UnknownKind(_) => 4,
-        Refusal::WrongField(_) => 5,
-        Refusal::WrongChild(_) => 6,
-        Refusal::NoArityRule(_) => 7,
-        Refusal::TooWide(_) => 8,
-        Refusal::LooseNode(_) => 9,
-        Refusal::TooManyInstructions => 10,
-        Refusal::TooManyCells => 11,
-        Refusal::ShortBuffer => 12,
-        Refusal::WrongCode => 13,
-        Refusal::WrongBlock => 14,
-        Refusal::WrongProbes => 15,
-        Refusal::EmptyFeedback(_) => 16,
-        Refusal::TooManyJoined => 17,
+impl Refusal {
+    // The document's number.
+    pub fn number(self) -> u32
+        ensures { result ≡ number_of self }
+    {
+        match self {
+            Refusal::MalformedLine(_) => 1,
+            Refusal::WrongNodeNumber(_) => 2,
+            Refusal::WrongNodeCount(_) => 3,
+            Refusal::UnknownKind(_) => 4,
+            Refusal::WrongField(_) => 5,
+            Refusal::WrongChild(_) => 6,
+            Refusal::NoArityRule(_) => 7,
+            Refusal::TooWide(_) => 8,
+            Refusal::LooseNode(_) => 9,
+            Refusal::TooManyInstructions => 10,
+            Refusal::TooManyCells => 11,
+            Refusal::ShortBuffer => 12,
+            Refusal::WrongCode => 13,
+            Refusal::WrongBlock => 14,
+            Refusal::WrongProbes => 15,
+            Refusal::EmptyFeedback(_) => 16,
+            Refusal::TooManyJoined => 17,
+        }
     }
-}
 
-// The place that a refusal carries, or the word of -1.
-fn carried(refusal: Refusal) -> u32
-    ensures { result ≡ place_word (place_of refusal) }
-{
-    match refusal {
-        Refusal::MalformedLine(at) => at,
-        Refusal::WrongNodeNumber(at) => at,
-        Refusal::WrongNodeCount(at) => at,
-        Refusal::UnknownKind(at) => at,
-        Refusal::WrongField(at) => at,
-        Refusal::WrongChild(at) => at,
-        Refusal::NoArityRule(at) => at,
-        Refusal::TooWide(at) => at,
-        Refusal::LooseNode(at) => at,
-        Refusal::TooManyInstructions => NO_PLACE,
-        Refusal::TooManyCells => NO_PLACE,
-        Refusal::ShortBuffer => NO_PLACE,
-        Refusal::WrongCode => NO_PLACE,
-        Refusal::WrongBlock => NO_PLACE,
-        Refusal::WrongProbes => NO_PLACE,
-        Refusal::EmptyFeedback(at) => at,
-        Refusal::TooManyJoined => NO_PLACE,
+    // The line or node, where there is one.
+    fn carried(self) -> Option<u32>
+        ensures { place_of self ≡ carried_place result }
+    {
+        match self {
+            Refusal::MalformedLine(at)
+            | Refusal::WrongNodeNumber(at)
+            | Refusal::WrongNodeCount(at)
+            | Refusal::UnknownKind(at)
+            | Refusal::WrongField(at)
+            | Refusal::WrongChild(at)
+            | Refusal::NoArityRule(at)
+            | Refusal::TooWide(at)
+            | Refusal::LooseNode(at)
+            | Refusal::EmptyFeedback(at) => Some(at),
+            Refusal::TooManyInstructions
+            | Refusal::TooManyCells
+            | Refusal::ShortBuffer
+            | Refusal::WrongCode
+            | Refusal::WrongBlock
+            | Refusal::WrongProbes
+            | Refusal::TooManyJoined => None,
+        }
     }
-}
 
-// The document's place of a refusal, its line or node, or -1, as a 32-bit number in two's complement.
-pub fn place(refusal: Refusal) -> u32
-    ensures { result ≡ low (place_of refusal) }
-{
-    carried(refusal)
+    // The document's place, the line or node, or -1, as a 32-bit number in two's complement.
+    pub fn place(self) -> u32
+        ensures { result ≡ low (place_of self) }
+    {
+        self.carried().unwrap_or(NO_PLACE)
+    }
 }

@@ -1,66 +1,79 @@
 // What a script prints.
+use cells::Samples;
 use refusal::Refusal;
 use std::io;
 use std::io::Write;
 
-pub fn text<W: Write>(out: &mut W, bytes: &[u8]) -> io::Result<()> {
-    out.write_all(bytes)
-}
-
-// A word as the signed number that it stands for.
-fn signed<W: Write>(out: &mut W, word: u32) -> io::Result<()> {
-    if word < 2147483648 {
-        return write!(out, "{word}");
-    }
-    write!(out, "-{}", 4294967296 - word as u64)
-}
-
+// A word as the signed number that it stands for, a space before it.
 pub fn number<W: Write>(out: &mut W, word: u32) -> io::Result<()> {
-    text(out, b" ")?;
-    signed(out, word)
+    write!(out, " {}", word.cast_signed())
 }
 
 // Number and place.
-pub fn refused<W: Write>(out: &mut W, refusal: Refusal) -> io::Result<()> {
-    text(out, b" refused")?;
-    number(out, refusal::number(refusal))?;
-    number(out, refusal::place(refusal))
+fn refused<W: Write>(out: &mut W, refusal: Refusal) -> io::Result<()> {
+    write!(out, " refused")?;
+    number(out, refusal.number())?;
+    number(out, refusal.place())
 }
 
-// Where the numbers equal to `value` end that begin at `from`.
-fn run_end(list: &[u32], from: usize, value: u32) -> usize {
-    let mut at: usize = from;
-    while at < list.len() {
-        if list[at] != value {
-            return at;
+// The count that a call answers, or its refusal; gives the count.
+pub fn count<W: Write>(out: &mut W, answer: Result<u32, Refusal>) -> io::Result<Option<u32>> {
+    match answer {
+        Ok(count) => {
+            number(out, count)?;
+            Ok(Some(count))
         }
-        at += 1;
+        Err(refusal) => {
+            refused(out, refusal)?;
+            Ok(None)
+        }
     }
-    at
+}
+
+// Numbers that a call answers, or its refusal.
+pub fn numbers<W: Write, const N: usize>(
+    out: &mut W,
+    answer: Result<[u32; N], Refusal>,
+) -> io::Result<()> {
+    match answer {
+        Ok(numbers) => {
+            for word in numbers {
+                number(out, word)?;
+            }
+            Ok(())
+        }
+        Err(refusal) => refused(out, refusal),
+    }
+}
+
+// The report of a walk or a run.
+pub fn report<W: Write>(out: &mut W, answer: Result<Samples, Refusal>) -> io::Result<()> {
+    numbers(out, answer.map(|samples| [samples.count, samples.clipped]))
 }
 
 // All numbers, equal ones in a row as one with their count.
 pub fn list<W: Write>(out: &mut W, list: &[u32]) -> io::Result<()> {
-    let mut at: usize = 0;
-    while at < list.len() {
-        let value = list[at];
-        let end = run_end(list, at, value);
-        if end <= at {
-            return Ok(());
+    for equal in list.chunk_by(|a, b| a == b) {
+        if let Some(&value) = equal.first() {
+            number(out, value)?;
         }
-        number(out, value)?;
-        if end - at > 1 {
-            write!(out, "*{}", end - at)?;
+        if 1 < equal.len() {
+            write!(out, "*{}", equal.len())?;
         }
-        at = end;
     }
-    text(out, b"\n")
+    writeln!(out)
 }
 
-// The first numbers of a list.
-pub fn first<W: Write>(out: &mut W, numbers: &[u32], count: usize) -> io::Result<()> {
-    if numbers.len() < count {
-        return Ok(());
+// The buffer that a call was lent.
+pub fn buffer<W: Write>(out: &mut W, buffer: &[u32]) -> io::Result<()> {
+    write!(out, " |")?;
+    list(out, buffer)
+}
+
+// The first numbers of a list; nothing where there are not so many.
+pub fn first<W: Write>(out: &mut W, numbers: &[u32], count: u32) -> io::Result<()> {
+    match numbers.get(..word::index(count)) {
+        Some(first) => list(out, first),
+        None => Ok(()),
     }
-    list(out, &numbers[0..count])
 }

@@ -1,139 +1,99 @@
-// Numbers of a script's line.
-ghost use Rattle.std.specs.Prelude.{◌≤◌, length};
+// Lines of a script, and the numbers of a line.
+ghost use Rattle.std.specs.Prelude.{◌≡◌, ◌≤◌, ◌<◌, length, IfSome};
 
 use word::negate;
 
-// A number, and where its text ends.
-#[derive(Clone, Copy)]
-pub struct Reading {
-    pub value: u32,
-    pub end: usize,
-}
-
-// The byte there, a line feed past the end.
-fn byte_at(text: &[u8], at: usize) -> u8 {
-    if at < text.len() {
-        return text[at];
-    }
-    b'\n'
-}
-
-// Does the line begin with this word?
-pub fn is(line: &[u8], word: &[u8]) -> bool {
-    let mut i: usize = 0;
-    while i < word.len() {
-        if byte_at(line, i) != word[i] {
-            return false;
-        }
-        i += 1;
-    }
-    byte_at(line, i) <= b' '
-}
-
-// Where the byte stands first from `from` on, or the end.
-pub fn find(text: &[u8], from: usize, byte: u8) -> usize
-    requires { from ≤ length text.now }
-    ensures { (from ≤ result) × (result ≤ length text.now) }
+// The first line, and the text behind its line feed.
+pub fn split_line(text: &[u8]) -> Option<(&[u8], &[u8])>
+    ensures { IfSome result (λ parts. length parts.1.now < length text.now) }
 {
-    let mut at: usize = from;
-    while at < text.len() {
-        if text[at] == byte {
-            return at;
-        }
-        at += 1;
-    }
-    at
+    let end = text.iter().position(|&byte| byte == b'\n')?;
+    Some((&text[..end], &text[end + 1..]))
 }
 
-// A value with one digit more, 0 where that is no word.
+// The word at the front of a line, and what follows it.
+pub fn split_word(line: &[u8]) -> (&[u8], &[u8]) {
+    let end = line
+        .iter()
+        .position(|&byte| byte <= b' ')
+        .unwrap_or(line.len());
+    (&line[..end], &line[end..])
+}
+
+// A value with one digit more, 0 where that is no word: a script has no such number.
 fn longer(value: u32, digit: u8) -> u32 {
-    let more = value as u64 * 10 + digit as u64;
-    if more < 48 {
-        return 0;
-    }
-    if more - 48 < 4294967296 {
-        return (more - 48) as u32;
-    }
-    0
+    value
+        .checked_mul(10)
+        .and_then(|tens| tens.checked_add(u32::from(digit.wrapping_sub(b'0'))))
+        .unwrap_or(0)
 }
 
-// The digits from `from` on.
-fn digits_at(line: &[u8], from: usize) -> Reading {
-    let mut value: u32 = 0;
-    let mut at: usize = from;
-    while at < line.len() {
-        let c = line[at];
-        if c < b'0' {
-            break;
+// The digits at the front of a text, and what follows them.
+fn split_digits(text: &[u8]) -> (u32, &[u8])
+    ensures { length result.1.now ≤ length text.now }
+{
+    let end = text
+        .iter()
+        .position(|byte| !byte.is_ascii_digit())
+        .unwrap_or(text.len());
+    let (digits, rest) = text.split_at(end);
+    let value = digits.iter().fold(0, |value, digit| longer(value, *digit));
+    (value, rest)
+}
+
+// The word of the number at the front, which may have a minus.
+fn split_number(text: &[u8]) -> (u32, &[u8])
+    ensures { length result.1.now ≤ length text.now }
+{
+    match text.split_first() {
+        Some((b'-', digits)) => {
+            let (size, rest) = split_digits(digits);
+            (negate(size), rest)
         }
-        if c > b'9' {
-            break;
-        }
-        value = longer(value, c);
-        at += 1;
-    }
-    Reading {
-        value: value,
-        end: at,
+        _ => split_digits(text),
     }
 }
 
-// The word of the number from `from` on, which may have a minus.
-fn number_at(line: &[u8], from: usize) -> Reading {
-    if byte_at(line, from) != b'-' {
-        return digits_at(line, from);
-    }
-    if from < line.len() {
-        let size = digits_at(line, from + 1);
-        return Reading {
-            value: negate(size.value),
-            end: size.end,
-        };
-    }
-    digits_at(line, from)
-}
-
-// How many times a number stands there: the count after a star, else 1.
-fn times_at(line: &[u8], from: usize) -> Reading {
-    if byte_at(line, from) == b'*' {
-        if from < line.len() {
-            return digits_at(line, from + 1);
-        }
-    }
-    Reading {
-        value: 1,
-        end: from,
+// How many times a number stands there: the count behind a star, else 1.
+fn split_times(text: &[u8]) -> (u32, &[u8])
+    ensures { length result.1.now ≤ length text.now }
+{
+    match text.split_first() {
+        Some((b'*', digits)) => split_digits(digits),
+        _ => (1, text),
     }
 }
 
-// As many as `times` of the value from `from` on, as far as there is room; gives where they end.
-pub fn put_run(list: &mut [u32], from: usize, value: u32, times: u32) -> usize {
-    let mut at: usize = from;
-    let mut left: u32 = times;
-    while 0 < left {
-        if list.len() <= at {
-            return at;
-        }
-        list[at] = value;
-        at += 1;
-        left -= 1;
-    }
-    at
+// The value as many times as `times` from `from` on, as far as there is room; gives where they end.
+pub fn put_run(list: &mut [u32], from: usize, value: u32, times: u32) -> usize
+    requires { from ≤ length list.old }
+    ensures within { result ≤ length list.new }
+    ensures len { length list.new ≡ length list.old }
+{
+    let end = list.len().min(from + times as usize);
+    list[from..end].fill(value);
+    end
 }
 
-// The numbers of a line from `from` on; gives how many there are.
-pub fn read_list(line: &[u8], from: usize, list: &mut [u32]) -> usize {
-    let mut at: usize = from;
+// The numbers of a line, one byte before each, as far as there is room; gives how many.
+pub fn read_list(arguments: &[u8], list: &mut [u32]) -> usize
+    ensures within { result ≤ length list.new }
+    ensures len { length list.new ≡ length list.old }
+{
+    let mut rest = arguments;
     let mut count: usize = 0;
-    while at < line.len() {
-        let number = number_at(line, at + 1);
-        let times = times_at(line, number.end);
-        count = put_run(list, count, number.value, times.value);
-        let next = times.end;
-        if next <= at {
-            return count;
-        }
-        at = next;
+    while let Some((_, numbers)) = rest.split_first() {
+        let (value, behind) = split_number(numbers);
+        let (times, behind) = split_times(behind);
+        count = put_run(list, count, value, times);
+        rest = behind;
     }
     count
+}
+
+// The first so many numbers of a line, 0 for those that are not there.
+pub fn read_numbers<const N: usize>(arguments: &[u8]) -> [u32; N] {
+    let mut numbers = [0u32; N];
+    read_list(arguments, &mut numbers);
+    numbers
 }

@@ -1,20 +1,19 @@
 -- What each loop of the translator writes next: an instruction on a cell, a term of a sum, a sum of a merge.
 use Prim.Native.Nat.{ℕ, zero, suc, ◌+◌, ◌-◌, ◌≤◌, ◌<◌}
-use mathlib.Core.Path.{◌≡◌, refl, sym, ap, subst, subst₂, ◌∙◌}
-use mathlib.Core.List.{List, [], ◌∷◌, ◌++◌, append-nil}
+use mathlib.Core.Path.{◌≡◌, refl, sym, ap, subst, subst₂}
+use mathlib.Core.List.{List, [], ◌∷◌, ◌++◌}
 use native.Mathlib.Omega.{arith}
 use native.Mathlib.Nat.{add-zero}
 use native.Mathlib.Numerals.{add-one}
-use lib.ListN.{length, get_or, take, drop, set, replicate, length-take, drop_of_length-le}
-use lib.Seq.{drop-cons, get_or-take, length-take-le, take-suc-set}
+use lib.ListN.{length, get_or, take, drop, set, replicate, drop_of_length-le}
+use lib.Seq.{drop-cons, take-suc-set}
 use Rattle.flat.specs.Flat.{Instruction}
 use Rattle.flat.specs.Instructions as flat
 use Rattle.translator.specs.Emit.{Emitted, emitted, reads, writes, up_from, terms, merges}
-use Rattle.translator.specs.Writing.{Room, Written, Puts, Summed, on_cells}
+use Rattle.translator.specs.Writing.{Room, Written, Summed, on_cells}
 use Rattle.translator.specs.declared.place.Place.{Place}
-use Rattle.translator.specs.declared.place.Progress.{Progress}
 use Rattle.translator.specs.declared.merge.Sum.{Sum}
-use Rattle.translator.proofs.Writing.{Going, first-room, go_on, one_more, all-written, written_none}
+use Rattle.translator.proofs.Writing.{Going, first-room, go_on, one_more}
 
 -- reads and writes in the form that they share
 pub writes_form : (a : ℕ) (rs : List ℕ) → writes a rs ≡ on_cells 6 a rs
@@ -28,47 +27,40 @@ reads_form a zero n h = refl
 reads_form a (suc k) zero h = absurd (omega arith)
 reads_form a (suc k) (suc n) h = ap {B = List Instruction} (λ is. flat.read a ∷ is) (reads_form (suc a) k n (omega arith))
 
-module _ (k a i n : ℕ) (xs : List ℕ) (inside : i < n) (few : n ≤ 32) (long : length xs ≡ 32) where
-  cell-first : on_cells k a (drop i (take n xs)) ≡ (flat.on_cell k a (get_or xs i 0) ∷ []) ++ on_cells k (a + 1) (drop (i + 1) (take n xs))
+module _ (k a i : ℕ) (xs : List ℕ) (inside : i < length xs) where
+  cell-first : on_cells k (a + i) (drop i xs) ≡ (flat.on_cell k (a + i) (get_or xs i 0) ∷ []) ++ on_cells k (a + (i + 1)) (drop (i + 1) xs)
   unfolding on_cells
   cell-first =
-      let l : i < length (take n xs) = rw (length-take-le n xs (omega arith)) inside in
-      rw (drop-cons (take n xs) i 0 l, get_or-take n xs i 0 inside, add-one a, add-one i)
+      let e : a + (i + 1) ≡ suc (a + i) = omega arith in
+      rw (drop-cons xs i 0 inside, e, add-one i)
 
-  module _ {e : Emitted} {p q : Place} {c c₁ : List ℕ} (g : Going e p c q c₁ [] (emitted (on_cells k a (drop i (take n xs))) [])) where
-    cell_going : Going e p c q c₁ [] (emitted ((flat.on_cell k a (get_or xs i 0) ∷ []) ++ on_cells k (a + 1) (drop (i + 1) (take n xs))) [])
+  module _ {e : Emitted} {p q : Place} {c c₁ : List ℕ} (g : Going e p c q c₁ [] (emitted (on_cells k (a + i) (drop i xs)) [])) where
+    cell_going : Going e p c q c₁ [] (emitted ((flat.on_cell k (a + i) (get_or xs i 0) ∷ []) ++ on_cells k (a + (i + 1)) (drop (i + 1) xs)) [])
     cell_going = subst (λ (is : List Instruction). Going e p c q c₁ [] (emitted is [])) cell-first g
 
-    pub cell_room : Room (flat.on_cell k a (get_or xs i 0) ∷ []) q c₁
-    cell_room = first-room (flat.on_cell k a (get_or xs i 0) ∷ []) _ cell_going
+    pub cell_room : Room (flat.on_cell k (a + i) (get_or xs i 0) ∷ []) q c₁
+    cell_room = first-room (flat.on_cell k (a + i) (get_or xs i 0) ∷ []) _ cell_going
 
-    pub cell-next : {s : Place} {c₂ : List ℕ} → Written (flat.on_cell k a (get_or xs i 0) ∷ []) q c₁ s c₂ → Going e p c s c₂ [] (emitted (on_cells k (a + 1) (drop (i + 1) (take n xs))) [])
-    cell-next w = go_on (flat.on_cell k a (get_or xs i 0) ∷ []) _ cell_going w
+    pub cell-next : {s : Place} {c₂ : List ℕ} → Written (flat.on_cell k (a + i) (get_or xs i 0) ∷ []) q c₁ s c₂ → Going e p c s c₂ [] (emitted (on_cells k (a + (i + 1)) (drop (i + 1) xs)) [])
+    cell-next w = go_on (flat.on_cell k (a + i) (get_or xs i 0) ∷ []) _ cell_going w
 
-pub cells_done : {e : Emitted} {p q : Place} {c c₁ : List ℕ} (k a i n : ℕ) (xs : List ℕ) → Going e p c q c₁ [] (emitted (on_cells k a (drop i (take n xs))) []) → n ≤ i → Going e p c q c₁ [] (emitted [] [])
+pub cells_done : {e : Emitted} {p q : Place} {c c₁ : List ℕ} (k a i : ℕ) (xs : List ℕ) → Going e p c q c₁ [] (emitted (on_cells k a (drop i xs)) []) → length xs ≤ i → Going e p c q c₁ [] (emitted [] [])
 unfolding on_cells
-cells_done k a i n xs g h =
-    let l : length (take n xs) ≤ i = rw length-take (omega arith) in
-    rw (drop_of_length-le (take n xs) l) at g
+cells_done k a i xs g h = rw (drop_of_length-le xs h) at g
 
-module _ (b acc at v : ℕ) (xs : List ℕ) (value : v ≡ get_or xs at 0) {e : Emitted} {p q : Place} {c c₁ : List ℕ} where
-  pub term_room : (k : ℕ) → Going e p c q c₁ [] (terms k b acc at xs q.next) → 0 < k → Room (flat.addition acc v ∷ []) q c₁
-  term_room zero g h = absurd (omega arith)
-  term_room (suc k) g h = rw value (first-room (flat.addition acc (get_or xs at 0) ∷ []) (terms k b q.next (at + b) xs (suc q.next)).code g)
+module _ (b acc at v : ℕ) (xs : List ℕ) (value : v ≡ get_or xs at 0) {e : Emitted} {p q : Place} {c c₁ : List ℕ} (n k : ℕ) (more : n ≡ suc k) (g : Going e p c q c₁ [] (terms n b acc at xs q.next)) where
+  term_going : Going e p c q c₁ [] (terms (suc k) b acc at xs q.next)
+  term_going = subst (λ (j : ℕ). Going e p c q c₁ [] (terms j b acc at xs q.next)) more g
 
-  pub term_next : {s : Place} {c₂ : List ℕ} (k : ℕ) → Going e p c q c₁ [] (terms k b acc at xs q.next) → 0 < k → Written (flat.addition acc v ∷ []) q c₁ s c₂
-      → Going e p c s c₂ [] (terms (k - 1) b q.next (at + b) xs s.next)
-  term_next zero g h w = absurd (omega arith)
-  term_next {s} {c₂} (suc k) g h w =
-      let z : suc k - 1 ≡ k = omega arith in
-      let n : s.next ≡ suc q.next = omega (arith, w.next) in
+  pub term_room : Room (flat.addition acc v ∷ []) q c₁
+  term_room = rw value (first-room (flat.addition acc (get_or xs at 0) ∷ []) (terms k b q.next (at + b) xs (suc q.next)).code term_going)
+
+  pub term_next : {s : Place} {c₂ : List ℕ} (at' : ℕ) → at' ≡ at + b → Written (flat.addition acc v ∷ []) q c₁ s c₂ → Going e p c s c₂ [] (terms k b q.next at' xs s.next)
+  term_next {s} {c₂} at' f w =
+      let m : s.next ≡ suc q.next = omega (arith, w.next) in
       let w' : Written (flat.addition acc (get_or xs at 0) ∷ []) q c₁ s c₂ = subst (λ (x : ℕ). Written (flat.addition acc x ∷ []) q c₁ s c₂) value w in
-      subst₂ (λ (j m : ℕ). Going e p c s c₂ [] (terms j b q.next (at + b) xs m)) (sym z) (sym n)
-      (go_on (flat.addition acc (get_or xs at 0) ∷ []) (terms k b q.next (at + b) xs (suc q.next)).code g w')
-
-pub terms_done : {p q : Place} {c c₁ : List ℕ} (left register at : ℕ) (xs : List ℕ) (b : ℕ) {e : Emitted} → Going e p c q c₁ [] (terms left b register at xs q.next) → left ≡ 0
-    → Going e p c q c₁ [] (emitted [] (register ∷ []))
-terms_done left register at xs b g e = rw e at g
+      subst₂ (λ (j l : ℕ). Going e p c s c₂ [] (terms k b q.next j xs l)) (sym f) (sym m)
+      (go_on (flat.addition acc (get_or xs at 0) ∷ []) (terms k b q.next (at + b) xs (suc q.next)).code term_going w')
 
 module _ (k b i v : ℕ) (xs : List ℕ) (value : v ≡ get_or xs i 0) {e : Emitted} {p q : Place} {c c₁ ys : List ℕ} where
   pub sum_room : (n : ℕ) → Going e p c q c₁ ys (merges n k b i xs q.next) → 0 < n → Room (terms k b v (i + b) xs q.next).code q c₁
@@ -99,16 +91,7 @@ module _ {e : Emitted} {p q : Place} {c c₁ : List ℕ} (k b i : ℕ) (xs sums 
       let z : b - i - 1 ≡ b - (i + 1) = omega arith in
       rw (add-one i, take-suc-set sums i r h, ← add-one i, ← z) g
 
-  pub sums_done : Going e p c q c₁ (take i sums) (merges (b - i) k b i xs q.next) → i ≡ b → Puts e b p c (record { regs = sums; place = q }) c₁
-  sums_done g h =
-      let z : b - i ≡ 0 = omega arith in
-      let g' : Going e p c q c₁ (take i sums) (emitted [] []) = rw z at g in
-      record { written = all-written g'; results = rw (← h) (sym (g'.results ∙ append-nil (take i sums))) }
-
 -- a merge onto nothing
-pub merge_none : {p : Progress} {c : List ℕ} (m b : ℕ) (xs : List ℕ) (k : ℕ) → b ≡ 0 → Puts (merges b k b 0 xs p.place.next) b p.place c p c
-merge_none m b xs k e = rw e (record { written = written_none; results = refl })
-
 -- registers in order
 pub ascend_next : (xs : List ℕ) (i first next : ℕ) → take i xs ≡ up_from first i → next ≡ first + i → i < length xs → take (i + 1) (set xs i next) ≡ up_from first (i + 1)
 ascend_next xs i first next e f h = rw (add-one i, take-suc-set xs i next h, e, f) (sym (up-last first i))

@@ -1,5 +1,5 @@
 -- The parts of a composition, from what the functions that write them leave.
-use Prim.Native.Nat.{ℕ, ◌+◌, ◌-◌, ◌/◌, ◌≤◌}
+use Prim.Native.Nat.{ℕ, ◌+◌, ◌≤◌}
 use mathlib.Core.Path.{◌≡◌, refl, sym, ap, ◌∙◌}
 use mathlib.Core.List.{List, []}
 use native.Mathlib.Omega.{arith}
@@ -7,16 +7,15 @@ use lib.ListN.{take}
 use lib.Seq.{take-take}
 use Rattle.arity.specs.Tree.{Tree, ins, outs}
 use Rattle.arity.specs.Table.{kind_at, composition_of}
-use Rattle.arity.specs.Survey.{row_at}
-use Rattle.arity.specs.declared.rows.Row.{Row}
+use Rattle.arity.specs.Ready.{Promising}
 use Rattle.calls.specs.Wiring.{first_inputs, second_inputs}
 use Rattle.walker.specs.Ready.{base, Joins, left_tree, right_tree, first_child, ins_of, outs_of, SecondGiven, Finished}
 use Rattle.walker.proofs.Joining.{Kind, kind_of_lem}
 use Rattle.walker.proofs.Joining.Kind.{sequences, parallels, splits, merges as mergings, recursions}
-use Rattle.walker.proofs.Wires.{own-cell, right_few_inputs, left_few_outputs, merge-room, cells-room, first-same, finished_recursion}
-use Rattle.translator.specs.Emit.{Emitted, emitted, reads, writes, up_from, merges}
+use Rattle.walker.proofs.Wires.{right_few_inputs, first-same, finished_recursion}
+use Rattle.translator.specs.Emit.{Emitted, emitted, reads, writes}
 use Rattle.translator.specs.Writing.{Room, Written, Puts}
-use Rattle.translator.specs.Parts.{reads_of, writes_of, middle, opening_of, middle_of, closing_of, Opens, Links, Closes, Translatable}
+use Rattle.translator.specs.Parts.{reads_of, writes_of, middle, opening_of, closing_of, Opens, Links, Closes}
 use Rattle.translator.specs.declared.place.Place.{Place}
 use Rattle.translator.specs.declared.place.Progress.{Progress}
 use Rattle.translator.proofs.Pieces.{length-reads}
@@ -55,57 +54,36 @@ no_sums k recursions h l r xs ys n = refl
 rewired : {e : Emitted} {k : ℕ} {p : Place} {c zs : List ℕ} → e.code ≡ [] → take k zs ≡ e.results → Puts e k p c (record { regs = zs; place = p }) c
 rewired h r = record { written = rw h written_none; results = r }
 
-module _ {table shape : List ℕ} {i : ℕ} (t : Translatable table shape) (j : Joins table i) where
+module _ {table : List ℕ} {i : ℕ} (t : Promising table) (j : Joins table i) where
   kind : Kind (kind_at table i)
   kind = kind_of_lem (kind_at table i) j.least j.most
 
-  -- the cells of a recursion, by its row
-  module _ {row : Row} {q : ℕ} (e : kind_at table i ≡ 11) (er : row ≡ row_at shape i) (eq : q ≡ ins (right_tree table i)) where
-    cell : row.cell ≡ base table i
-    cell = own-cell t.ready j (ap (λ (x : Row). x.cell) er)
+  -- the cells of a recursion
+  module _ {a q : ℕ} (e : kind_at table i ≡ 11) (ea : a ≡ base table i) (eq : q ≡ ins (right_tree table i)) where
+    fed-few : q ≤ 32
+    fed-few = omega (arith, right_few_inputs t j)
 
-    pub fed_few : (q ≤ 32) × (row.cell + q ≤ 65536)
-    fed_few = (omega (arith, right_few_inputs t.ready j), omega (arith, cell, cells-room t.ready j e t.cells))
-
-    pub fed_room : (p : Progress) {c : List ℕ} → Room (opening_of table i p).code p.place c → Room (reads row.cell q) p.place c
-    fed_room p r = rw (cell, eq) (rw e at r)
+    pub fed_room : (p : Progress) {c : List ℕ} → Room (opening_of table i p).code p.place c → Room (reads a q) p.place c
+    fed_room p r = rw (ea, eq) (rw e at r)
 
     pub fed_ascends : (p : Progress) {c : List ℕ} → Room (opening_of table i p).code p.place c → (q ≤ 32) × (p.place.next + q ≤ 65536)
-    fed_ascends p r = (fed_few.0, omega (arith, (fed_room p r).registers, length-reads row.cell q))
+    fed_ascends p r = (fed-few, omega (arith, (fed_room p r).registers, length-reads a q))
 
-    pub opens_recursion : {p : Progress} {s : Place} {c c₁ us : List ℕ} → Written (reads row.cell q) p.place c s c₁ → take q us ≡ up_from p.place.next q
-        → Opens table i p c (record { regs = us; place = s }) c₁
-    opens_recursion w h = record { is = rw (e, ← eq, ← cell) (record { written = w; results = h }) }
-
-    writes_are : (q' r : Progress) → (closing_of table i q' r).code ≡ writes row.cell (take q r.regs)
+    writes_are : (q' r : Progress) → (closing_of table i q' r).code ≡ writes a (take q r.regs)
     writes_are q' r =
-        let h : q ≤ outs (left_tree table i) = omega (arith, ((t.ready.node i j.inside).recursion e).0) in
-        rw (e, ← cell, ← eq, take-take q (outs (left_tree table i)) r.regs h)
+        let h : q ≤ outs (left_tree table i) = omega (arith, ((t.node i j.inside).recursion e).0) in
+        rw (e, ← ea, ← eq, take-take q (outs (left_tree table i)) r.regs h)
 
-    pub kept-room : (q' r : Progress) {c : List ℕ} → Room (closing_of table i q' r).code r.place c → Room (writes row.cell (take q r.regs)) r.place c
-    kept-room q' r h = rw (writes_are q' r) at h
-
-    pub closes_recursion : {q' r : Progress} {s : Place} {c c₁ : List ℕ} → Written (writes row.cell (take q r.regs)) r.place c s c₁
+    pub closes_recursion : {q' r : Progress} {s : Place} {c c₁ : List ℕ} → Written (writes a (take q r.regs)) r.place c s c₁
         → Closes table i q' r c (record { regs = r.regs; place = s }) c₁
     closes_recursion {q'} {r} w =
-        record { is = record { written = rw (writes_are q' r) w; results = (finished_recursion t.ready j {ys = q'.regs} {zs = r.regs} {cs = []} e refl refl refl).outputs } }
+        record { is = record { written = rw (writes_are q' r) w; results = (finished_recursion t j {ys = q'.regs} {zs = r.regs} {cs = []} e refl refl refl).outputs } }
 
   pub opens_other : {p : Progress} {c : List ℕ} → (kind_at table i ≡ 11 → ⊥) → Opens table i p c p c
   opens_other {p} {c} n =
       record {
-        is = rewired (no_reads _ kind n _ _) ((first-same t.ready j {xs = p.regs} {cs = []} n).is ∙ not_fed _ kind n _ _ _ _);
+        is = rewired (no_reads _ kind n _ _) ((first-same t j {xs = p.regs} {cs = []} n).is ∙ not_fed _ kind n _ _ _ _);
       }
-
-  pub merge-few : {m b : ℕ} → kind_at table i ≡ 10 → m ≡ outs (left_tree table i) → b ≡ ins (right_tree table i) → (b ≤ m) × (m ≤ 32)
-  merge-few e em eb = (omega (arith, merge-room t.ready j e), omega (arith, left_few_outputs t.ready j))
-
-  pub links_merge : {p q s : Progress} {c c₁ : List ℕ} {m b : ℕ} → kind_at table i ≡ 10 → m ≡ outs (left_tree table i) → b ≡ ins (right_tree table i)
-      → Puts (merges b (m / b - 1) b 0 (take m q.regs) q.place.next) b q.place c s c₁ → Links table i p q c s c₁
-  links_merge e em eb w = record { is = rw (e, ← em, ← eb) w }
-
-  pub links_room : (p q : Progress) {c : List ℕ} {m b : ℕ} → kind_at table i ≡ 10 → m ≡ outs (left_tree table i) → b ≡ ins (right_tree table i)
-      → Room (middle_of table i p q).code q.place c → Room (merges b (m / b - 1) b 0 (take m q.regs) q.place.next).code q.place c
-  links_room p q e em eb r = rw (em, eb) (rw e at r)
 
   pub links_other : {p q : Progress} {c zs : List ℕ} → (kind_at table i ≡ 10 → ⊥) → SecondGiven table i p.regs q.regs zs → Links table i p q c (record { regs = zs; place = q.place }) c
   links_other {p} {q} n s =

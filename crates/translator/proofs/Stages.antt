@@ -12,6 +12,7 @@ use Rattle.arity.specs.Tree.Composition.{sequence, parallel, split, merge, recur
 use Rattle.arity.specs.Table.{tree, first_at}
 use Rattle.arity.specs.WellFormed.{WellFormed}
 use Rattle.arity.specs.Promise.{Node}
+use Rattle.arity.specs.Ready.{Promising}
 use Rattle.calls.specs.Wiring.{first_side, second_side}
 use Rattle.walker.specs.Ready.{base, Joins, Demands, joining, left_tree, right_tree, first_child, second_child, ins_of, outs_of}
 use Rattle.walker.proofs.Joining.{first-tree, second-tree}
@@ -19,7 +20,7 @@ use Rattle.flat.specs.Flat.{Instruction}
 use Rattle.flat.specs.Instructions as flat
 use Rattle.translator.specs.Emit.{Emitted, emitted, emit, reads, writes, up_from}
 use Rattle.translator.specs.Writing.{Room, follow}
-use Rattle.translator.specs.Parts.{opening, middle, closing, skipping, holding, emission, opening_of, middle_of, closing_of, skipping_of, holding_of, Emits, Opens, Links, Closes, Skips, Holds, Translatable}
+use Rattle.translator.specs.Parts.{opening, middle, closing, skipping, holding, emission, opening_of, middle_of, closing_of, skipping_of, holding_of, Emits, Opens, Links, Closes, Skips, Holds}
 use Rattle.translator.specs.declared.place.Progress.{Progress}
 use Rattle.translator.proofs.Pieces.{length-reads, length-writes}
 use Rattle.translator.proofs.Count.{emit-outs, emit-need}
@@ -109,10 +110,10 @@ pub record Skipped (table : List ℕ) (i : ℕ) (p : Progress) (c : List ℕ) (o
 pub record Held (table : List ℕ) (i : ℕ) (p : Progress) (c : List ℕ) (q : Progress) (c₁ : List ℕ) : Type 0 where
   pub going : Stage table i p c q c₁ (holding_of table i q)
 
-module _ {table shape : List ℕ} {i : ℕ} (t : Translatable table shape) (j : Joins table i) where
+module _ {table : List ℕ} {i : ℕ} (t : Promising table) (j : Joins table i) where
   emission-join : (p : Progress) → emission table i p ≡ follow (opening_of table i p) (after_opening table i p) p.place.next
   emission-join p =
-      ap (λ (x : Tree). emit (base table) x (ins_of table i p.regs) p.place.next) ((t.ready.node i j.inside).is_join j.least j.most)
+      ap (λ (x : Tree). emit (base table) x (ins_of table i p.regs) p.place.next) ((t.node i j.inside).is_join j.least j.most)
       ∙ emit-join (base table) i (joining table i) (left_tree table i) (right_tree table i) (ins_of table i p.regs) p.place.next
       ∙ ap₂ (λ (f s : Tree). follow (opening_of table i p) (from_first (base table) i (joining table i) (left_tree table i) (right_tree table i) f s (ins_of table i p.regs)) p.place.next)
       (sym (first-tree table i j)) (sym (second-tree table i j))
@@ -155,15 +156,15 @@ module _ {table : List ℕ} {i : ℕ} {p : Progress} {c : List ℕ} where
   pub closed : {q r z : Progress} {c₁ c₂ : List ℕ} → Ending table i p c q r c₁ → Closes table i q r c₁ z c₂ → Emits table i p c z c₂
   closed g w = record { is = last g.going w.is }
 
-module _ {table shape : List ℕ} {i : ℕ} (t : Translatable table shape) (d : Demands table i) where
+module _ {table : List ℕ} {i : ℕ} (t : Promising table) (d : Demands table i) where
   own : Node table i
-  own = t.ready.node i d.inside
+  own = t.node i d.inside
 
   emission-demand : (p : Progress) → emission table i p ≡ follow (skipping_of table i p) (from_body (base table) i (left_tree table i)) p.place.next
   emission-demand p =
       ap (λ (x : Tree). emit (base table) x (ins_of table i p.regs) p.place.next) (own.is_ondemand (omega (arith, d.kind)))
       ∙ emit-ondemand (base table) i (left_tree table i) (ins_of table i p.regs) p.place.next
-      (t.ready.node (first_at table i) (omega (arith, own.left (omega (arith, d.kind)), d.inside))).well_formed
+      (t.node (first_at table i) (omega (arith, own.left (omega (arith, d.kind)), d.inside))).well_formed
 
   module _ (p : Progress) {c : List ℕ} (room : Room (emission table i p).code p.place c) where
     begun_demand : Stage table i p c p c (follow (skipping_of table i p) (from_body (base table) i (left_tree table i)) p.place.next)

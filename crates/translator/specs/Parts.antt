@@ -1,12 +1,11 @@
 -- The parts of a node's translation: what stands before its first side, between its sides and behind its second, in whichever composition.
-use Rattle.std.specs.Prelude.{ℕ, ◌+◌, ◌-◌, ◌/◌, ◌≤◌, List, [], ◌∷◌, ◌++◌, length, take}
-use Rattle.word.specs.Limits.{most_instructions, most_cells}
+use Rattle.std.specs.Prelude.{ℕ, ◌+◌, ◌-◌, ◌/◌, List, [], ◌∷◌, ◌++◌, length, take}
 use Rattle.word.specs.Tick.{head_or, tail_of}
 use Rattle.arity.specs.Tree.{Tree, Composition, ins, outs, need}
 use Rattle.arity.specs.Tree.Composition.{sequence, parallel, split, merge, recursion}
-use Rattle.arity.specs.Table.{nodes, circuit, tree, first_at}
+use Rattle.arity.specs.Table.{tree, first_at}
 use Rattle.calls.specs.Wiring.{first_inputs, second_inputs, join_outputs}
-use Rattle.walker.specs.Ready.{base, Ready, joining, left_tree, right_tree, first_child, second_child, ins_of, outs_of}
+use Rattle.walker.specs.Ready.{base, joining, left_tree, right_tree, first_child, second_child, ins_of, outs_of}
 use Rattle.flat.specs.Flat.{Instruction}
 use Rattle.flat.specs.Instructions as flat
 use Rattle.translator.specs.Emit.{Emitted, emitted, emit, reads, writes, up_from, merges}
@@ -103,10 +102,3 @@ pub record Skips (table : List ℕ) (i : ℕ) (p : Progress) (c : List ℕ) (q :
 
 pub record Holds (table : List ℕ) (i : ℕ) (q : Progress) (c : List ℕ) (r : Progress) (c' : List ℕ) : Type 0 where
   pub is : Puts (holding_of table i q) (outs_at table i) q.place c r c'
-
--- an accepted table that is not too large, with its survey
-pub record Translatable (table shape : List ℕ) : Type 0 where
-  pub ready : Ready table shape
-  pub least : 1 ≤ nodes table
-  pub instructions : need (circuit table) ≤ most_instructions
-  pub cells : base table (nodes table) ≤ most_cells

@@ -2,24 +2,18 @@
 use Rattle.std.specs.Prelude.{ℕ, ◌+◌, ◌≤◌, ◌≡◌, List, ◌++◌, leb, length, drop}
 use Rattle.word.specs.Choice.{pick}
 use Rattle.word.specs.Limits.{most_instructions, most_cells}
-use Rattle.refusal.specs.Answer.{Answer, count, refusal_of, refused_all}
+use Rattle.refusal.specs.Answer.{Answer, count, refused_all}
 use Rattle.refusal.specs.Answer.Answer.{counts, refused}
 use Rattle.refusal.specs.Outcome.{Outcome, outcome}
 use Rattle.arity.specs.Tree.{ins, outs, need}
 use Rattle.arity.specs.Table.{nodes, circuit}
 use Rattle.arity.specs.Nodes.{cells_before}
 use Rattle.arity.specs.Check.{checked}
-use Rattle.walker.specs.Ready.{base, Ready}
+use Rattle.arity.specs.Ready.{Promising}
+use Rattle.arity.specs.declared.counts.Counts.{Counts}
+use Rattle.walker.specs.Ready.{base}
 use Rattle.flat.specs.Code.{results_at}
-use Rattle.translator.specs.Parts.{Translatable}
 use Rattle.translator.specs.Translated.{translated}
-use Rattle.translator.specs.declared.TranslateAnswer.{TranslateAnswer}
-use Rattle.translator.specs.declared.TranslateAnswer.TheVariants.{Numbers, Refused}
-
--- the document's answer for each case
-abbrev pub answer_of : TranslateAnswer → Answer
-answer_of (Numbers n) = count n
-answer_of (Refused r) = refusal_of r
 
 -- E4: "4+6c+m" numbers, c being the instructions needed
 abbrev pub numbers_of : List ℕ → ℕ
@@ -45,18 +39,20 @@ translated_by (refused r p) table code = outcome (refused r p) code
 unfoldable pub translated_table : List ℕ → List ℕ → Outcome
 translated_table table = translated_by (checked table) table
 
--- what a survey of an accepted table leaves, with the counts of its circuit
-pub record Counted (table shape : List ℕ) (n m c cells : ℕ) : Type 0 where
-  pub ready : Ready table shape
+-- an accepted table with the counts of its circuit
+pub record Counted (table : List ℕ) (k : Counts) : Type 0 where
+  pub promising : Promising table
   pub least : 1 ≤ nodes table
-  pub inputs_are : n ≡ ins (circuit table)
-  pub outputs_are : m ≡ outs (circuit table)
-  pub instructions_are : c ≡ need (circuit table)
-  pub cells_are : cells ≡ base table (nodes table)
+  pub inputs_are : k.inputs ≡ ins (circuit table)
+  pub outputs_are : k.outputs ≡ outs (circuit table)
+  pub instructions_are : k.instructions ≡ need (circuit table)
+  pub cells_are : k.cells ≡ base table (nodes table)
 
 -- what the instructions of a circuit ask: it is not too large, and there is room for them and for the output registers
-pub record Headed (table shape : List ℕ) (n m : ℕ) (code : List ℕ) : Type 0 where
-  pub translatable : Translatable table shape
-  pub inputs_are : n ≡ ins (circuit table)
-  pub outputs_are : m ≡ outs (circuit table)
+pub record Headed (table : List ℕ) (k : Counts) (code : List ℕ) : Type 0 where
+  pub promising : Promising table
+  pub least : 1 ≤ nodes table
+  pub instructions : need (circuit table) ≤ most_instructions
+  pub inputs_are : k.inputs ≡ ins (circuit table)
+  pub outputs_are : k.outputs ≡ outs (circuit table)
   pub room : numbers_of table ≤ length code

@@ -4,8 +4,8 @@ ghost use Rattle.word.specs.Limits.{widest};
 ghost use Rattle.translator.specs.Emit.{terms, merges};
 ghost use Rattle.translator.specs.Writing.{Room, Puts, Summed};
 
-use crate::instructions::operation;
-use crate::place::{Place, Progress, push};
+use crate::instructions::addition;
+use crate::place::{Place, Progress};
 use beam::entry;
 use word::limits::BEAM;
 
@@ -24,28 +24,22 @@ fn put_terms(
     b: usize,
     acc: u32,
     from: usize,
-    regs: [u32; BEAM],
+    regs: &[u32],
     m: usize,
 ) -> Sum
     requires k_le_widest { (k ≤ widest) × (b ≤ widest) × (from ≤ 64) }
-    requires room { Room (terms k b acc from (take m regs) p.next).code p code.old }
-    ensures { Summed k b acc from (take m regs) p code.old result code.new }
+    requires room { Room (terms k b acc from (take m regs.now) p.next).code p code.old }
+    ensures { Summed k b acc from (take m regs.now) p code.old result code.new }
 {
     let mut q = p;
     let mut register = acc;
-    let mut at = from;
-    let mut left = k;
-    while 0 < left {
+    for j in 0..k {
         let next = q.next;
-        q = push(code, q, operation(1, register, entry(&regs, m, at), 0));
+        let term = entry(regs, m, from + j * b);
+        q = q.push(code, addition(register, term));
         register = next;
-        at += b;
-        left -= 1;
     }
-    Sum {
-        register: register,
-        place: q,
-    }
+    Sum { register, place: q }
 }
 
 // The first m registers of p added onto b, output by output and from the first term on.
@@ -58,15 +52,12 @@ pub fn put_merges(code: &mut [u32], p: Progress, m: usize, b: usize) -> Progress
         return p;
     }
     let more = m / b - 1;
-    let regs = p.regs;
     let mut sums = [0u32; BEAM];
     let mut q = p.place;
-    let mut i: usize = 0;
-    while i < b {
-        let s = put_terms(code, q, more, b, entry(&regs, m, i), i + b, regs, m);
+    for i in 0..b {
+        let s = put_terms(code, q, more, b, entry(&p.regs, m, i), i + b, &p.regs, m);
         sums[i] = s.register;
         q = s.place;
-        i += 1;
     }
     Progress {
         regs: sums,

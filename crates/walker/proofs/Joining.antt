@@ -15,7 +15,8 @@ use Rattle.arity.specs.Tree.Composition.{sequence, parallel, split, merge, recur
 use Rattle.arity.specs.Table.{kind_at, first_at, second_at, composition_of, tree}
 use Rattle.calls.specs.Step.{first_tick, second_tick, step}
 use Rattle.calls.specs.Wiring.{first_side, second_side, join_outputs, kept_cells}
-use Rattle.walker.specs.Ready.{base, Ready, Joins, joining, left_tree, right_tree, first_child, second_child, ins_of, outs_of, FirstGiven, SecondGiven, Finished, Ticked}
+use Rattle.arity.specs.Ready.{Promising}
+use Rattle.walker.specs.Ready.{base, Joins, joining, left_tree, right_tree, first_child, second_child, ins_of, outs_of, FirstGiven, SecondGiven, Finished, Ticked}
 
 -- a tick of a composition from the ticks of its sides, one after the other
 step-join : (base : ℕ → ℕ) (i : ℕ) (c : Composition) (l r : Tree) (f : Tick) (cs ys cs₁ zs cs₂ : List ℕ) (p q : Bool)
@@ -72,17 +73,17 @@ module _ (table : List ℕ) (i : ℕ) (j : Joins table i) where
   second-tree = side_second (kind_at table i) kind (tree table) (first_at table i) (second_at table i)
 
 -- a tick of a composition from the ticks of its sides
-pub join_ticked : {table shape controls : List ℕ} {i f s : ℕ} {xs cs zs ys cs₁ ws vs cs₂ os cs₃ : List ℕ} {told told₁ told₂ : Bool} → Ready table shape → Joins table i → f ≡ first_child table i → s ≡ second_child table i
+pub join_ticked : {table controls : List ℕ} {i f s : ℕ} {xs cs zs ys cs₁ ws vs cs₂ os cs₃ : List ℕ} {told told₁ told₂ : Bool} → Promising table → Joins table i → f ≡ first_child table i → s ≡ second_child table i
     → FirstGiven table i xs cs zs → Ticked table controls f zs cs ys cs₁ told told₁ → SecondGiven table i xs ys ws → Ticked table controls s ws cs₁ vs cs₂ told₁ told₂ → Finished table i ys vs cs₂ os cs₃
     → Ticked table controls i xs cs os cs₃ told told₂
-join_ticked {table} {shape} {controls} {i} {f} {s} {xs} {cs} {zs} {ys} {cs₁} {ws} {vs} {cs₂} {os} {cs₃} {told} {told₁} {told₂} ready j ef es first a second b out =
+join_ticked {table} {controls} {i} {f} {s} {xs} {cs} {zs} {ys} {cs₁} {ws} {vs} {cs₂} {os} {cs₃} {told} {told₁} {told₂} promise j ef es first a second b out =
     record {
       clips = a'.clips or b'.clips;
       tells = b'.tells ∙ ap (λ (o : Bool). o or b'.clips) a'.tells ∙ or_assoc told a'.clips b'.clips;
       is =
           ap₂ (λ (l m : List ℕ). stepped l m (a'.clips or b'.clips)) out.outputs out.cells
           ∙ sym
-          (ap (λ (t : Tree). step (base table) t (tick (ins_of table i xs) controls) cs) ((ready.node i j.inside).is_join j.least j.most)
+          (ap (λ (t : Tree). step (base table) t (tick (ins_of table i xs) controls) cs) ((promise.node i j.inside).is_join j.least j.most)
           ∙ step-join (base table) i (joining table i) (left_tree table i) (right_tree table i) (tick (ins_of table i xs) controls) cs (outs_of table (first_child table i) ys) cs₁ (outs_of table (second_child table i) vs) cs₂ a'.clips b'.clips
           (ap₂ (λ (t : Tree) (l : Beam). step (base table) t (tick l controls) cs) (sym (first-tree table i j)) (sym first.is) ∙ sym a'.is)
           (ap₂ (λ (t : Tree) (l : Beam). step (base table) t (tick l controls) cs₁) (sym (second-tree table i j)) (sym second.is) ∙ sym b'.is));

@@ -16,27 +16,21 @@ use Rattle.cells.specs.Delay.{delayed, moved}
 use Rattle.arity.specs.Tree.{Tree, ins, outs, size}
 use Rattle.arity.specs.Tree.Tree.{leaf, ondemand}
 use Rattle.arity.specs.Table.{nodes, kind_at, first_at, primitive_of, tree}
-use Rattle.arity.specs.Survey.{row_at}
 use Rattle.arity.specs.Promise.{Node}
 use Rattle.calls.specs.Step.{step}
-use Rattle.walker.specs.Ready.{base, Ready, left_tree, outs_of, Demands, Holding, Ticked}
+use Rattle.arity.specs.Ready.{Promising}
+use Rattle.walker.specs.Ready.{base, left_tree, outs_of, Demands, Holding, Ticked}
 
 -- a kind without children that is none of the first five
 pub sixth : (k : ℕ) → 1 ≤ k → k ≤ 6 → (k ≡ 1 → ⊥) → (k ≡ 2 → ⊥) → (k ≡ 3 → ⊥) → (k ≡ 4 → ⊥) → (k ≡ 5 → ⊥) → k ≡ 6
 sixth k l m a b c d e = omega arith
 
-module _ {table shape : List ℕ} {i : ℕ} (ready : Ready table shape) (inside : i < nodes table) where
+module _ {table : List ℕ} {i : ℕ} (promise : Promising table) (inside : i < nodes table) where
   node : Node table i
-  node = ready.node i inside
+  node = promise.node i inside
 
   leaf-is : (k : ℕ) → kind_at table i ≡ k → k ≤ 6 → tree table i ≡ leaf i (primitive_of k (first_at table i))
   leaf-is k e l = node.is_leaf (omega arith) ∙ ap (λ (m : ℕ). leaf i (primitive_of m (first_at table i))) e
-
-  pub ins-at : {n : ℕ} → n ≡ (row_at shape i).inputs → n ≡ ins (tree table i)
-  ins-at e = e ∙ (ready.row i inside).inputs
-
-  pub cell_at : {a : ℕ} → a ≡ (row_at shape i).cell → a ≡ base table i
-  cell_at e = e ∙ (ready.row i inside).cell
 
   pub delay-small : kind_at table i ≡ 4 → first_at table i ≤ 4095
   delay-small e = node.delay e
@@ -94,18 +88,15 @@ unfolding step
 demanded-step base i b xs us cs ys cs₁ o y e = rw (y, e)
 
 -- an ondemand: its counts, its demand, and its rest
-module _ {table shape : List ℕ} {i : ℕ} (ready : Ready table shape) (d : Demands table i) where
+module _ {table : List ℕ} {i : ℕ} (promise : Promising table) (d : Demands table i) where
   own : Node table i
-  own = ready.node i d.inside
+  own = promise.node i d.inside
 
   pub demand-is : tree table i ≡ ondemand i (left_tree table i)
   demand-is = own.is_ondemand (omega (arith, d.kind))
 
   pub body_in : first_at table i < i
   body_in = own.left (omega (arith, d.kind))
-
-  pub outs-at : {n : ℕ} → n ≡ (row_at shape i).outputs → n ≡ outs (tree table i)
-  outs-at e = e ∙ (ready.row i d.inside).outputs
 
   pub outs-few : outs (tree table i) ≤ 32
   outs-few = own.outputs

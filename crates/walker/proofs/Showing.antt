@@ -23,7 +23,8 @@ use Rattle.calls.specs.Probes.{noted, shown, zip_with}
 use Rattle.calls.specs.Probed.{probes_of}
 use Rattle.probes.specs.Marks.{Probing, Marked, MarksOf}
 use Rattle.probes.proofs.Zips.{each_at, zip_zip, zip_same, zip_all, zip_kept}
-use Rattle.walker.specs.Ready.{base, Ready, Joins, Demands, joining, left_tree, right_tree, first_child, second_child, ins_of, outs_of, FirstGiven, SecondGiven, Ticked}
+use Rattle.arity.specs.Ready.{Promising}
+use Rattle.walker.specs.Ready.{base, Joins, Demands, joining, left_tree, right_tree, first_child, second_child, ins_of, outs_of, FirstGiven, SecondGiven, Ticked}
 use Rattle.walker.specs.Probing.{Names, Named, Watching, Watched, below, ShowedBelow, Showed}
 use Rattle.walker.proofs.Joining.{first-tree, second-tree}
 use Rattle.walker.proofs.Leaves.{demand-is, clock_is, rest-is, ins-more}
@@ -70,18 +71,18 @@ shown-is base (join i c l r) f cs p v = refl
 shown-is base (ondemand i b) f cs p v = refl
 
 -- the tree of node i has it as its root
-rooted : {table shape : List ℕ} → Ready table shape → (i : ℕ) → i < nodes table → root (tree table i) ≡ i
-rooted {table} ready i h = go (leb (kind_at table i) 6) (leb (kind_at table i) 11) refl refl
+rooted : {table : List ℕ} → Promising table → (i : ℕ) → i < nodes table → root (tree table i) ≡ i
+rooted {table} promise i h = go (leb (kind_at table i) 6) (leb (kind_at table i) 11) refl refl
   where
     n : Node table i
-    n = ready.node i h
+    n = promise.node i h
 
     go : (a b : Bool) → leb (kind_at table i) 6 ≡ a → leb (kind_at table i) 11 ≡ b → root (tree table i) ≡ i
     go true b p q = ap root (n.is_leaf (leb-true (kind_at table i) 6 p))
     go false true p q = ap root (n.is_join (leb-false (kind_at table i) 6 p) (leb-true (kind_at table i) 11 q))
     go false false p q = ap root (n.is_ondemand (leb-false (kind_at table i) 11 q))
 
-module _ {table shape xs : List ℕ} {k : ℕ} (ready : Ready table shape) (w : Named table xs k) where
+module _ {table xs : List ℕ} {k : ℕ} (promise : Promising table) (w : Named table xs k) where
   -- the probes as their notes ask
   pub probing : Probing xs k
   probing =
@@ -89,8 +90,8 @@ module _ {table shape xs : List ℕ} {k : ℕ} (ready : Ready table shape) (w : 
       record {
         two = w.two;
         few = w.few;
-        nodes = λ i h. omega (arith, (at i h).node, ready.few);
-        outputs = λ i h. omega (arith, (at i h).output, (ready.node _ (at i h).node).outputs);
+        nodes = λ i h. omega (arith, (at i h).node, promise.few);
+        outputs = λ i h. omega (arith, (at i h).output, (promise.node _ (at i h).node).outputs);
       }
 
   -- of the array of 32 a probe shows an output of the node
@@ -114,27 +115,27 @@ pub watching-kept : {table xs marks : List ℕ} {k k' : ℕ} → Watching table 
 watching-kept {table} {xs} {marks} w e = subst (λ (n : ℕ). Watching table xs n marks) (sym e) w
 
 -- what a note of node i asks
-pub noting : {table shape marks : List ℕ} {k i : ℕ} → Ready table shape → Watched table k marks → i < nodes table → MarksOf k marks × (i < 512)
-noting ready w h =
-    (record { numbers = w.numbers; probing = probing ready w.watching.named; marked = w.watching.marked }, omega (arith, ready.few))
+pub noting : {table marks : List ℕ} {k i : ℕ} → Promising table → Watched table k marks → i < nodes table → MarksOf k marks × (i < 512)
+noting promise w h =
+    (record { numbers = w.numbers; probing = probing promise w.watching.named; marked = w.watching.marked }, omega (arith, promise.few))
 
 -- the tick of node i
 abbrev given : (table controls : List ℕ) → ℕ → List ℕ → Tick
 given table controls i ins = tick (ins_of table i ins) controls
 
 -- the body of an ondemand, where it is worked
-body_below : {table shape : List ℕ} {i : ℕ} → Ready table shape → Demands table i → (controls ins cs : List ℕ) (ps : List Probe) (vs : List ℕ)
+body_below : {table : List ℕ} {i : ℕ} → Promising table → Demands table i → (controls ins cs : List ℕ) (ps : List Probe) (vs : List ℕ)
     → zip_with (below (base table) (tree table i) (given table controls i ins) cs) ps vs
     ≡ zip_with (λ p v. pick (demand (get_or ins 0 0)) (shown (base table) (left_tree table i) (tick (tail_of (ins_of table i ins)) controls) cs p v) v) ps vs
-body_below {table} {shape} {i} ready d controls ins cs ps vs =
-    ap (λ (T : Tree). zip_with (below (base table) T (given table controls i ins) cs) ps vs) (demand-is ready d)
-    ∙ ap (λ o. zip_with (λ p v. pick o (shown (base table) (left_tree table i) (tick (tail_of (ins_of table i ins)) controls) cs p v) v) ps vs) (ap demand (clock_is ready d ins))
+body_below {table} {i} promise d controls ins cs ps vs =
+    ap (λ (T : Tree). zip_with (below (base table) T (given table controls i ins) cs) ps vs) (demand-is promise d)
+    ∙ ap (λ o. zip_with (λ p v. pick o (shown (base table) (left_tree table i) (tick (tail_of (ins_of table i ins)) controls) cs p v) v) ps vs) (ap demand (clock_is promise d ins))
 
 -- what a note of marks says of the probes xs
 abbrev Notes : (marks : List ℕ) → ℕ → (ys vs vs' : List ℕ) → Type 0
 Notes marks i ys vs vs' = (xs : List ℕ) → Probing xs (length vs) → Marked xs (length vs) marks → vs' ≡ zip_with (noted i ys) (probes_of xs) vs
 
-module _ {table shape controls xs ins cs marks : List ℕ} {k i : ℕ} (ready : Ready table shape) (w : Watching table xs k marks) where
+module _ {table controls xs ins cs marks : List ℕ} {k i : ℕ} (promise : Promising table) (w : Watching table xs k marks) where
   -- below the node, and then its own outputs
   pub noted_showed : {ys cs' vs vs₁ vs₂ : List ℕ} {told told' : Bool} → i < nodes table → length vs₁ ≡ k → Ticked table controls i ins cs ys cs' told told' → ShowedBelow table controls xs i ins cs vs vs₁ → Notes marks i ys vs₁ vs₂
       → Showed table controls xs i ins cs vs vs₂
@@ -145,11 +146,11 @@ module _ {table shape controls xs ins cs marks : List ℕ} {k i : ℕ} (ready : 
       let w₁ : Watching table xs (length vs₁) marks = watching-kept w l in
       record {
         is =
-            notes xs (probing ready w₁.named) w₁.marked ∙ notes_outputs ready w.named i ys vs₁
+            notes xs (probing promise w₁.named) w₁.marked ∙ notes_outputs promise w.named i ys vs₁
             ∙ ap₂ (λ (s : Stepped) (us : List ℕ). zip_with (noted i s.outputs) (probes_of xs) us) t.is m.is
             ∙ zip_zip (below (base table) T f cs) (noted i out) (probes_of xs) vs
             ∙ zip_all (λ p v. noted i out p (below (base table) T f cs p v)) (shown (base table) T f cs)
-            (λ p v. ap (λ (j : ℕ). noted j out p (below (base table) T f cs p v)) (sym (rooted ready i inside)) ∙ shown-is (base table) T f cs p v) (probes_of xs) vs;
+            (λ p v. ap (λ (j : ℕ). noted j out p (below (base table) T f cs p v)) (sym (rooted promise i inside)) ∙ shown-is (base table) T f cs p v) (probes_of xs) vs;
       }
 
   -- nothing is below a primitive
@@ -157,7 +158,7 @@ module _ {table shape controls xs ins cs marks : List ℕ} {k i : ℕ} (ready : 
   leaf-below {vs} l inside h =
       record {
         is = sym
-            (ap (λ (T : Tree). zip_with (below (base table) T (given table controls i ins) cs) (probes_of xs) vs) ((ready.node i inside).is_leaf h) ∙ zip_kept xs vs (omega (arith, w.named.two)));
+            (ap (λ (T : Tree). zip_with (below (base table) T (given table controls i ins) cs) (probes_of xs) vs) ((promise.node i inside).is_leaf h) ∙ zip_kept xs vs (omega (arith, w.named.two)));
       }
 
   module _ (d : Demands table i) where
@@ -165,22 +166,22 @@ module _ {table shape controls xs ins cs marks : List ℕ} {k i : ℕ} (ready : 
     below_rest {vs} l n =
         record {
           is = sym
-              (body_below ready d controls ins cs (probes_of xs) vs ∙ ap (λ o. zip_with (λ p v. pick o (shown (base table) (left_tree table i) (tick (tail_of (ins_of table i ins)) controls) cs p v) v) (probes_of xs) vs) n
+              (body_below promise d controls ins cs (probes_of xs) vs ∙ ap (λ o. zip_with (λ p v. pick o (shown (base table) (left_tree table i) (tick (tail_of (ins_of table i ins)) controls) cs p v) v) (probes_of xs) vs) n
               ∙ zip_kept xs vs (omega (arith, w.named.two)));
         }
 
     pub below-demand : {b : ℕ} {zs vs vs' : List ℕ} → demand (get_or ins 0 0) ≡ true → b ≡ first_at table i → take (32 - 1) zs ≡ drop 1 ins → Showed table controls xs b zs cs vs vs'
         → ShowedBelow table controls xs i ins cs vs vs'
     below-demand {b} {zs} {vs} y eb ez m =
-        let few : ins_t (left_tree table i) ≤ 31 = omega (arith, ins-more ready d, (ready.node i d.inside).inputs) in
+        let few : ins_t (left_tree table i) ≤ 31 = omega (arith, ins-more promise d, (promise.node i d.inside).inputs) in
         let e : tail_of (ins_of table i ins) ≡ take (ins_t (left_tree table i)) zs =
-        rest-is ready d ins ∙ ap (take (ins_t (left_tree table i))) (sym ez) ∙ take-take (ins_t (left_tree table i)) 31 zs few in
+        rest-is promise d ins ∙ ap (take (ins_t (left_tree table i))) (sym ez) ∙ take-take (ins_t (left_tree table i)) 31 zs few in
         record {
           is =
               m.is ∙ ap (λ j. zip_with (shown (base table) (tree table j) (tick (ins_of table j zs) controls) cs) (probes_of xs) vs) eb
               ∙ ap (λ l. zip_with (shown (base table) (left_tree table i) (tick l controls) cs) (probes_of xs) vs) (sym e)
               ∙ ap (λ o. zip_with (λ p v. pick o (shown (base table) (left_tree table i) (tick (tail_of (ins_of table i ins)) controls) cs p v) v) (probes_of xs) vs) (sym y)
-              ∙ sym (body_below ready d controls ins cs (probes_of xs) vs);
+              ∙ sym (body_below promise d controls ins cs (probes_of xs) vs);
         }
 
   pub join-below : {f₁ f₂ : ℕ} {zs ys cs₁ ws vs vs₁ vs₂ : List ℕ} {told told₁ : Bool} → Joins table i → f₁ ≡ first_child table i → f₂ ≡ second_child table i
@@ -206,5 +207,5 @@ module _ {table shape controls xs ins cs marks : List ℕ} {k i : ℕ} (ready : 
         is =
             e₂ ∙ ap (zip_with (shown B (second_side c l r) (second_tick c l r f ys') cs₁) (probes_of xs)) e₁
             ∙ sides_below B i c l r f cs ys' cs₁ a'.clips ea (probes_of xs) vs
-            ∙ ap (λ (T : Tree). zip_with (below B T f cs) (probes_of xs) vs) (sym ((ready.node i j.inside).is_join j.least j.most));
+            ∙ ap (λ (T : Tree). zip_with (below B T f cs) (probes_of xs) vs) (sym ((promise.node i j.inside).is_join j.least j.most));
       }

@@ -25,27 +25,27 @@ use Rattle.walker.specs.Walk.{probed_circuit}
 use Rattle.walker.proofs.Naming.{count-is, passed}
 use Rattle.walker.proofs.Showing.{watching-kept}
 
-module _ {table shape : List ℕ} {n m k : ℕ} (s : Surveyed table shape n m k) where
+module _ {table : List ℕ} {n m k : ℕ} (s : Surveyed table n m k) where
   last_in : nodes table - 1 < nodes table
   last_in = omega (arith, s.least)
 
   pub inputs-few : n ≤ 32
-  inputs-few = omega (arith, s.inputs_are, (s.ready.node (nodes table - 1) last_in).inputs)
+  inputs-few = omega (arith, s.inputs_are, (s.promise.node (nodes table - 1) last_in).inputs)
 
   pub outputs-few : m ≤ 32
-  outputs-few = omega (arith, s.outputs_are, (s.ready.node (nodes table - 1) last_in).outputs)
+  outputs-few = omega (arith, s.outputs_are, (s.promise.node (nodes table - 1) last_in).outputs)
 
 -- two numbers a probe
 abbrev probe_count : List ℕ → ℕ
 probe_count xs = length xs / 2
 
 -- a call that is not refused: each buffer as far as it is needed, and the rest behind it
-module _ {table shape : List ℕ} {n m k ticks : ℕ} {inputs controls cells outputs : List ℕ} (w : Walkable table shape n m k ticks inputs controls cells outputs) where
-  pub playable : Playable table shape (nodes table - 1) n m ticks inputs (take k cells) (take (ticks * m) outputs)
+module _ {table : List ℕ} {n m k ticks : ℕ} {inputs controls cells outputs : List ℕ} (w : Walkable table n m k ticks inputs controls cells outputs) where
+  pub playable : Playable table (nodes table - 1) n m ticks inputs (take k cells) (take (ticks * m) outputs)
   playable =
       let s = w.surveyed in
       record {
-        ready = s.ready;
+        promise = s.promise;
         least = s.least;
         last = refl;
         inputs_are = s.inputs_are;
@@ -103,7 +103,7 @@ both_fit : (a b x y : ℕ) → a ≤ b → x ≤ y → leb a b and leb x y ≡ t
 both_fit a b x y h g = rw (le-leb a b h, le-leb x y g)
 
 -- any call: the tests one after another
-module _ {table shape : List ℕ} {n m k : ℕ} (s : Surveyed table shape n m k) (xs : List ℕ) (ticks : ℕ) (inputs controls cells outputs latest recording : List ℕ) where
+module _ {table : List ℕ} {n m k : ℕ} (s : Surveyed table n m k) (xs : List ℕ) (ticks : ℕ) (inputs controls cells outputs latest recording : List ℕ) where
   abbrev no : ℕ → Probed
   no r = untouched (refused_all r) cells outputs latest recording
 
@@ -142,7 +142,7 @@ module _ {table shape : List ℕ} {n m k : ℕ} (s : Surveyed table shape n m k)
           total-few = few t m' 32 (omega (arith, (block_says n ticks inputs controls block).short)) (omega (arith, outputs-few s))
 
           pub all-few : t * probe_count xs ≤ 65536
-          all-few = few t (probe_count xs) 16 (omega (arith, (block_says n ticks inputs controls block).short)) (passed {xs = xs} s.ready ok).few
+          all-few = few t (probe_count xs) 16 (omega (arith, (block_says n ticks inputs controls block).short)) (passed {xs = xs} s.promise ok).few
 
           pub short-buffer : (length cells < k') ⊎ (length outputs < t * m') → no 12 ≡ result
           short-buffer h = sym (opened ∙ rw (fits, block, ok, ← ek, ← et, ← em, either_short k' (length cells) (t * m') (length outputs) h))
@@ -155,7 +155,7 @@ module _ {table shape : List ℕ} {n m k : ℕ} (s : Surveyed table shape n m k)
             short_list h = sym (opened ∙ rw (fits, block, ok, rooms, ← et, either_short (probe_count xs) (length latest) (t * probe_count xs) (length recording) h))
 
             module _ (e : probe_count xs ≤ length latest) (f : t * probe_count xs ≤ length recording) where
-              pub walkable : {n' : ℕ} → n' ≡ n → Walkable table shape n' m' k' t inputs controls cells outputs
+              pub walkable : {n' : ℕ} → n' ≡ n → Walkable table n' m' k' t inputs controls cells outputs
               walkable en =
                   record {
                     surveyed = rw (en, em, ek) s;
@@ -167,7 +167,7 @@ module _ {table shape : List ℕ} {n m k : ℕ} (s : Surveyed table shape n m k)
                   }
 
               pub watchable : Watchable table xs t latest recording
-              watchable = record { named = passed s.ready ok; latest-fits = e; recording-fits = f }
+              watchable = record { named = passed s.promise ok; latest-fits = e; recording-fits = f }
 
               pub not-refused : all t ≡ result
               not-refused = sym (opened ∙ rw (fits, block, ok, rooms, ← et, both_fit (probe_count xs) (length latest) (t * probe_count xs) (length recording) e f))

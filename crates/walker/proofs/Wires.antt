@@ -12,11 +12,11 @@ use Rattle.cells.specs.Cells.{part, store}
 use Rattle.arity.specs.Tree.{ins, outs, size}
 use Rattle.arity.specs.Tree.Tree.{join}
 use Rattle.arity.specs.Table.{nodes, kind_at, first_at, second_at, composition_of, tree}
-use Rattle.arity.specs.Survey.{row_at}
 use Rattle.arity.specs.Promise.{Node}
 use Rattle.arity.proofs.Times.{times_whole, times_least}
 use Rattle.signal.specs.Signal.{copies, sums}
-use Rattle.walker.specs.Ready.{base, Ready, Roomy, Joins, left_tree, right_tree, first_child, second_child, FirstGiven, SecondGiven, Finished}
+use Rattle.arity.specs.Ready.{Promising}
+use Rattle.walker.specs.Ready.{base, Joins, left_tree, right_tree, first_child, second_child, FirstGiven, SecondGiven, Finished}
 use Rattle.walker.proofs.Joining.{Kind, kind_of_lem}
 use Rattle.walker.proofs.Joining.Kind.{sequences, parallels, splits, merges, recursions}
 
@@ -25,36 +25,15 @@ drop-take zero b xs = rw zero-add
 drop-take (suc a) b [] = rw suc-add (simp (drop-nil, take-nil))
 drop-take (suc a) b (x ∷ xs) = rw suc-add (drop-take a b xs)
 
--- a kind that is none of the first four compositions
-pub fifth : (k : ℕ) → 7 ≤ k → k ≤ 11 → (k ≡ 7 → ⊥) → (k ≡ 8 → ⊥) → (k ≡ 9 → ⊥) → (k ≡ 10 → ⊥) → k ≡ 11
-fifth k l m a b c d = omega arith
-
--- a node with children that is no ondemand
-pub joins : {table shape : List ℕ} {i : ℕ} → Ready table shape → i < nodes table → 6 < kind_at table i → (kind_at table i ≡ 12 → ⊥) → Joins table i
-joins {table} {shape} {i} ready h l n = record { inside = h; least = l; most = omega (arith, (ready.node i h).most) }
-
--- as many cells
-pub roomy : (table : List ℕ) {n m : ℕ} → Roomy table n → m ≡ n → Roomy table m
-roomy table h e = omega arith
-
-module _ {table shape : List ℕ} {i : ℕ} (ready : Ready table shape) (j : Joins table i) where
+module _ {table : List ℕ} {i : ℕ} (promise : Promising table) (j : Joins table i) where
   node : Node table i
-  node = ready.node i j.inside
+  node = promise.node i j.inside
 
   pub left_in : first_at table i < nodes table
   left_in = omega (arith, node.left j.least, j.inside)
 
   pub right_in : second_at table i < nodes table
   right_in = omega (arith, node.right j.least, j.inside)
-
-  pub own-few : i < 512
-  own-few = omega (arith, ready.few, j.inside)
-
-  pub left-few : {l : ℕ} → l ≡ first_at table i → l < 512
-  left-few e = omega (arith, ready.few, left_in)
-
-  pub right-few : {r : ℕ} → r ≡ second_at table i → r < 512
-  right-few e = omega (arith, ready.few, right_in)
 
   pub first_below : {f : ℕ} → f ≡ first_child table i → f < i
   first_below {f} e = go (ℕ_discrete (kind_at table i) 11)
@@ -70,24 +49,18 @@ module _ {table shape : List ℕ} {i : ℕ} (ready : Ready table shape) (j : Joi
       go (yes k) = omega (arith, rw (eq-eqb (kind_at table i) 11 k) at e, node.left j.least)
       go (no k) = omega (arith, rw (ne_eqb (kind_at table i) 11 k) at e, node.right j.least)
 
-  -- what the rows of the survey say
-  pub own-inputs : {a : ℕ} → a ≡ (row_at shape i).inputs → a ≡ ins (tree table i)
-  own-inputs e = e ∙ (ready.row i j.inside).inputs
+  -- what is read of the sides
+  pub left-inputs : {l a : ℕ} → l ≡ first_at table i → a ≡ ins (tree table l) → a ≡ ins (left_tree table i)
+  left-inputs e f = f ∙ ap (λ (k : ℕ). ins (tree table k)) e
 
-  pub own-cell : {a : ℕ} → a ≡ (row_at shape i).cell → a ≡ base table i
-  own-cell e = e ∙ (ready.row i j.inside).cell
+  pub left-outputs : {l a : ℕ} → l ≡ first_at table i → a ≡ outs (tree table l) → a ≡ outs (left_tree table i)
+  left-outputs e f = f ∙ ap (λ (k : ℕ). outs (tree table k)) e
 
-  pub left-inputs : {l a : ℕ} → l ≡ first_at table i → a ≡ (row_at shape l).inputs → a ≡ ins (left_tree table i)
-  left-inputs e f = f ∙ ap (λ (k : ℕ). (row_at shape k).inputs) e ∙ (ready.row (first_at table i) left_in).inputs
+  pub right-inputs : {l a : ℕ} → l ≡ second_at table i → a ≡ ins (tree table l) → a ≡ ins (right_tree table i)
+  right-inputs e f = f ∙ ap (λ (k : ℕ). ins (tree table k)) e
 
-  pub left-outputs : {l a : ℕ} → l ≡ first_at table i → a ≡ (row_at shape l).outputs → a ≡ outs (left_tree table i)
-  left-outputs e f = f ∙ ap (λ (k : ℕ). (row_at shape k).outputs) e ∙ (ready.row (first_at table i) left_in).outputs
-
-  pub right-inputs : {r a : ℕ} → r ≡ second_at table i → a ≡ (row_at shape r).inputs → a ≡ ins (right_tree table i)
-  right-inputs e f = f ∙ ap (λ (k : ℕ). (row_at shape k).inputs) e ∙ (ready.row (second_at table i) right_in).inputs
-
-  pub right-outputs : {r a : ℕ} → r ≡ second_at table i → a ≡ (row_at shape r).outputs → a ≡ outs (right_tree table i)
-  right-outputs e f = f ∙ ap (λ (k : ℕ). (row_at shape k).outputs) e ∙ (ready.row (second_at table i) right_in).outputs
+  pub right-outputs : {l a : ℕ} → l ≡ second_at table i → a ≡ outs (tree table l) → a ≡ outs (right_tree table i)
+  right-outputs e f = f ∙ ap (λ (k : ℕ). outs (tree table k)) e
 
   -- the node's own counts, by its kind
   join_is : (k : ℕ) → kind_at table i ≡ k → tree table i ≡ join i (composition_of k) (left_tree table i) (right_tree table i)
@@ -101,13 +74,13 @@ module _ {table shape : List ℕ} {i : ℕ} (ready : Ready table shape) (j : Joi
 
   -- limits of what is handed to the functions on beams
   pub left_few_inputs : ins (left_tree table i) ≤ 32
-  left_few_inputs = (ready.node (first_at table i) left_in).inputs
+  left_few_inputs = (promise.node (first_at table i) left_in).inputs
 
   pub left_few_outputs : outs (left_tree table i) ≤ 32
-  left_few_outputs = (ready.node (first_at table i) left_in).outputs
+  left_few_outputs = (promise.node (first_at table i) left_in).outputs
 
   pub right_few_inputs : ins (right_tree table i) ≤ 32
-  right_few_inputs = (ready.node (second_at table i) right_in).inputs
+  right_few_inputs = (promise.node (second_at table i) right_in).inputs
 
   pub merge-room : kind_at table i ≡ 10 → ins (right_tree table i) ≤ outs (left_tree table i)
   merge-room e = times_least _ _ (node.merge e)

@@ -1,24 +1,19 @@
--- What the walker's functions ask of a table and its survey, all of it promised of an accepted table, and what a step leaves.
+-- What the walker's functions ask of a circuit, all of it promised of an accepted table, and what a step leaves.
 use Rattle.std.specs.Prelude.{ℕ, ◌-◌, ◌*◌, ◌≤◌, ◌<◌, ◌≡◌, Bool, List, eqb, length, take}
 use Rattle.word.specs.Choice.{◌or◌, pick}
-use Rattle.word.specs.Limits.{most_nodes, control_count, most_ticks}
+use Rattle.word.specs.Limits.{control_count, most_ticks}
 use Rattle.word.specs.Tick.{Beam, Tick, tick, Stepped, stepped}
 use Rattle.cells.specs.Cells.{part}
 use Rattle.arity.specs.Tree.{Tree, Composition, ins, outs}
 use Rattle.arity.specs.Table.{nodes, kind_at, first_at, second_at, composition_of, tree, circuit}
 use Rattle.arity.specs.Nodes.{cells_before}
-use Rattle.arity.specs.Promise.{Node, Shaped}
+use Rattle.arity.specs.Ready.{Promising}
 use Rattle.calls.specs.Step.{step}
 use Rattle.calls.specs.Wiring.{first_inputs, second_inputs, join_outputs, kept_cells}
 
 -- the first cell of each node of a table
 abbrev pub base : List ℕ → ℕ → ℕ
 base table = cells_before (circuit table)
-
-pub record Ready (table shape : List ℕ) : Type 0 where
-  pub few : nodes table ≤ most_nodes
-  pub node : (i : ℕ) → i < nodes table → Node table i
-  pub row : (i : ℕ) → i < nodes table → Shaped table shape i
 
 -- as many cells as the table needs
 abbrev pub Roomy : List ℕ → ℕ → Type 0
@@ -93,8 +88,8 @@ abbrev pub step_of : List ℕ → Tick → List ℕ → Stepped
 step_of table = step (base table) (circuit table)
 
 -- what playing ticks asks: the root is the last node, and the buffers are as long as needed and no longer
-pub record Playable (table shape : List ℕ) (root n m ticks : ℕ) (inputs cells outputs : List ℕ) : Type 0 where
-  pub ready : Ready table shape
+pub record Playable (table : List ℕ) (root n m ticks : ℕ) (inputs cells outputs : List ℕ) : Type 0 where
+  pub promise : Promising table
   pub least : 1 ≤ nodes table
   pub last : root ≡ nodes table - 1
   pub inputs_are : n ≡ ins (circuit table)
@@ -105,16 +100,16 @@ pub record Playable (table shape : List ℕ) (root n m ticks : ℕ) (inputs cell
   pub room : length cells ≡ base table (nodes table)
 
 -- what a survey of an accepted table leaves, with the counts of its circuit
-pub record Surveyed (table shape : List ℕ) (n m cells : ℕ) : Type 0 where
-  pub ready : Ready table shape
+pub record Surveyed (table : List ℕ) (n m cells : ℕ) : Type 0 where
+  pub promise : Promising table
   pub least : 1 ≤ nodes table
   pub inputs_are : n ≡ ins (circuit table)
   pub outputs_are : m ≡ outs (circuit table)
   pub cells_are : cells ≡ base table (nodes table)
 
 -- what a call of so many ticks asks that is not refused: its block has the inputs, and its buffers are as long as needed
-pub record Walkable (table shape : List ℕ) (n m k ticks : ℕ) (inputs controls cells outputs : List ℕ) : Type 0 where
-  pub surveyed : Surveyed table shape n m k
+pub record Walkable (table : List ℕ) (n m k ticks : ℕ) (inputs controls cells outputs : List ℕ) : Type 0 where
+  pub surveyed : Surveyed table n m k
   pub short : ticks ≤ most_ticks
   pub reads : length inputs ≡ ticks * n
   pub controls_are : length controls ≡ control_count

@@ -2,22 +2,15 @@
 use Rattle.std.specs.Prelude.{ℕ, List, leb}
 use Rattle.word.specs.Choice.{pick}
 use Rattle.word.specs.Limits.{most_cells}
-use Rattle.refusal.specs.Answer.{Answer, refusal_of, refused_all}
+use Rattle.refusal.specs.Answer.{Answer, refused_all}
 use Rattle.refusal.specs.Answer.Answer.{counts, refused}
-use Rattle.cells.specs.Block.{with_report, Ran, unchanged, refusal, called}
+use Rattle.cells.specs.Block.{Ran, unchanged, refusal, called}
 use Rattle.arity.specs.Tree.{Tree, ins, outs}
 use Rattle.arity.specs.Table.{nodes, circuit}
 use Rattle.arity.specs.Nodes.{cells_before}
 use Rattle.arity.specs.Check.{checked}
-use Rattle.walker.specs.declared.WalkAnswer.{WalkAnswer}
-use Rattle.walker.specs.declared.WalkAnswer.TheVariants.{Samples, Refused}
 use Rattle.calls.specs.Step.{step}
 use Rattle.calls.specs.Probed.{Probed, untouched, probed}
-
--- the document's answer for each case
-abbrev pub answer_of : WalkAnswer → Answer
-answer_of (Samples n k) = with_report n k
-answer_of (Refused r) = refusal_of r
 
 -- 11, then 14 and 12
 unfoldable pub walked : ℕ → Tree → ℕ → List ℕ → List ℕ → List ℕ → List ℕ → Ran

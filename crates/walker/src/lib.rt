@@ -6,83 +6,63 @@ mod step;
 pub mod wiring;
 
 ghost use Rattle.std.specs.Prelude.{◌≡◌, List, ℕ, ◌*◌, length};
-ghost use Rattle.cells.specs.Block.{with_report, ran_as, played_as, played, ticks_of};
-ghost use Rattle.arity.specs.Table.{nodes, circuit};
+ghost use Rattle.cells.specs.Block.{answer_of, with_report, ran_as, played_as, played, ticks_of};
+ghost use Rattle.arity.specs.Table.{nodes, circuit as tree_of};
 ghost use Rattle.calls.specs.Probes.{noted_as, recorded};
 ghost use Rattle.calls.specs.Probed.{probes_of, probed_as, watches};
 ghost use Rattle.walker.specs.Ready.{base, step_of, Playable, Surveyed, Walkable};
 ghost use Rattle.walker.specs.Probing.{Watching, Recordable, Watchable};
-ghost use Rattle.walker.specs.Walk.{answer_of, walked_table, probed_circuit, probed_table};
+ghost use Rattle.walker.specs.Walk.{walked_table, probed_circuit, probed_table};
 
+use arity::circuit::Circuit;
 use arity::rows::SHAPE;
-use arity::{CheckAnswer, survey};
+use arity::{Counts, survey};
 use beam::{fetched, keep, keep_list};
-use cells::block_ok;
+use cells::{Samples, block_ok};
 use named::probes_ok;
 use probes::{MARKS, mark, note};
 use refusal::Refusal;
-use step::circuit_step;
+use step::Walk;
 use word::limits::{CELLS, CONTROLS};
 use word::{bit, index};
 
 // The ticks of a call that is not refused, one after another, on the cells and the buffers that it needs and no more; in how many of them was a delay clipped?
 fn play(
-    table: &[u32],
-    shape: &[u32; SHAPE],
+    walk: &Walk,
     root: usize,
     n: usize,
     m: usize,
     ticks: usize,
     inputs: &[u32],
-    controls: &[u32; CONTROLS],
     cells: &mut [u32],
     outputs: &mut [u32],
-    marks: &[u8; MARKS],
     latest: &mut [u32],
     recording: &mut [u32],
 ) -> u32
-    requires playable { Playable table.now shape.now root n m ticks inputs.now cells.old outputs.old }
-    requires recordable { Recordable table.now marks.now ticks latest.old recording.old }
-    ensures cells_value { played (step_of table.now) (ticks_of n controls.now ticks inputs.now) cells.old ≡ played_as outputs.new cells.new result }
-    ensures by_index { (xs : List ℕ) → Watching table.now xs (length latest.old) marks.now
-        → recorded (base table.now) (circuit table.now) (probes_of xs) (ticks_of n controls.now ticks inputs.now) cells.old latest.old
+    requires playable { Playable walk.now.circuit.now root n m ticks inputs.now cells.old outputs.old }
+    requires recordable { Recordable walk.now.circuit.now walk.now.marks.now ticks latest.old recording.old }
+    ensures cells_value { played (step_of walk.now.circuit.now) (ticks_of n walk.now.controls.now ticks inputs.now) cells.old ≡ played_as outputs.new cells.new result }
+    ensures by_index { (xs : List ℕ) → Watching walk.now.circuit.now xs (length latest.old) walk.now.marks.now
+        → recorded (base walk.now.circuit.now) (tree_of walk.now.circuit.now) (probes_of xs) (ticks_of n walk.now.controls.now ticks inputs.now) cells.old latest.old
         ≡ noted_as latest.new recording.new }
 {
     let count = latest.len();
-    let mut left: usize = ticks;
-    let mut a: usize = 0;
-    let mut b: usize = 0;
-    let mut d: usize = 0;
     let mut clips: u32 = 0;
-    while 0 < left {
-        let ins = fetched(inputs, a, n);
+    for tick in 0..ticks {
+        let ins = fetched(inputs, tick * n, n);
         let mut told = false;
-        let y = circuit_step(
-            table, shape, root, controls, &ins, cells, marks, latest, &mut told,
-        );
-        note(marks, root, y, latest);
-        keep(outputs, b, m, y);
-        keep_list(recording, d, latest);
+        let y = walk.step(root, &ins, cells, latest, &mut told);
+        note(walk.marks, root, y, latest);
+        keep(outputs, tick * m, m, y);
+        keep_list(recording, tick * count, latest);
         clips += bit(told);
-        a += n;
-        b += m;
-        d += count;
-        left -= 1;
     }
     clips
 }
 
-// The count of output samples that a call calls for, with the count of its ticks in which a delay was clipped; or its refusal.
-#[derive(Drop)]
-pub enum WalkAnswer {
-    Samples { count: u32, clipped: u32 },
-    Refused(Refusal),
-}
-
-// A call that is not refused, on buffers that may be longer than needed.
+// A call that is not refused, on buffers that may be longer than needed. Here and below block and buffers stand one by one, as the C interface lends them.
 fn walk_ticks(
-    table: &[u32],
-    shape: &[u32; SHAPE],
+    circuit: &Circuit,
     n: usize,
     m: usize,
     need: usize,
@@ -95,10 +75,10 @@ fn walk_ticks(
     latest: &mut [u32],
     recording: &mut [u32],
 ) -> u32
-    requires walkable { Walkable table.now shape.now n m need ticks inputs.now controls.now cells.old outputs.old }
-    requires watchable { Watchable table.now probes.now ticks latest.old recording.old }
+    requires walkable { Walkable circuit.now n m need ticks inputs.now controls.now cells.old outputs.old }
+    requires watchable { Watchable circuit.now probes.now ticks latest.old recording.old }
     ensures { probed_as (ran_as (with_report (ticks * m) result) cells.new outputs.new) latest.new recording.new
-        ≡ watches (nodes table.now) (circuit table.now) (probes_of probes.now) ticks inputs.now controls.now cells.old outputs.old latest.old recording.old }
+        ≡ watches (nodes circuit.now) (tree_of circuit.now) (probes_of probes.now) ticks inputs.now controls.now cells.old outputs.old latest.old recording.old }
 {
     let mut set = [0u32; CONTROLS];
     keep_list(&mut set, 0, controls);
@@ -107,19 +87,20 @@ fn walk_ticks(
     let watched = probes.len() / 2;
     let total = ticks * m;
     let all = ticks * watched;
-    let root = table.len() / 3 - 1;
+    let walk = Walk {
+        circuit,
+        controls: &set,
+        marks: &marks,
+    };
     play(
-        table,
-        shape,
-        root,
+        &walk,
+        circuit.nodes() - 1,
         n,
         m,
         ticks,
         inputs,
-        &set,
         &mut cells[..need],
         &mut outputs[..total],
-        &marks,
         &mut latest[..watched],
         &mut recording[..all],
     )
@@ -127,11 +108,8 @@ fn walk_ticks(
 
 // A call for an accepted table: refusal 11, then 14, 15 and 12; else its ticks.
 fn walk_circuit(
-    table: &[u32],
-    shape: &[u32; SHAPE],
-    n: u32,
-    m: u32,
-    count: u32,
+    circuit: &Circuit,
+    counts: Counts,
     probes: &[u32],
     ticks: u32,
     inputs: &[u32],
@@ -140,35 +118,34 @@ fn walk_circuit(
     outputs: &mut [u32],
     latest: &mut [u32],
     recording: &mut [u32],
-) -> WalkAnswer
-    requires { Surveyed table.now shape.now n m count }
+) -> Result<Samples, Refusal>
+    requires { Surveyed circuit.now counts.inputs counts.outputs counts.cells }
     ensures { probed_as (ran_as (answer_of result) cells.new outputs.new) latest.new recording.new
-        ≡ probed_circuit (nodes table.now) (circuit table.now) probes.now ticks inputs.now controls.now cells.old outputs.old latest.old recording.old }
+        ≡ probed_circuit (nodes circuit.now) (tree_of circuit.now) probes.now ticks inputs.now controls.now cells.old outputs.old latest.old recording.old }
 {
-    let need = index(count);
+    let need = index(counts.cells);
     if CELLS < need {
-        return WalkAnswer::Refused(Refusal::TooManyCells);
+        return Err(Refusal::TooManyCells);
     }
-    if !block_ok(n, ticks, inputs, controls) {
-        return WalkAnswer::Refused(Refusal::WrongBlock);
+    if !block_ok(counts.inputs, ticks, inputs, controls) {
+        return Err(Refusal::WrongBlock);
     }
-    if !probes_ok(table, shape, probes) {
-        return WalkAnswer::Refused(Refusal::WrongProbes);
+    if !probes_ok(circuit, probes) {
+        return Err(Refusal::WrongProbes);
     }
     let t = index(ticks);
-    let wide = index(m);
+    let wide = index(counts.outputs);
     let total = t * wide;
     let watched = probes.len() / 2;
     if cells.len() < need || outputs.len() < total {
-        return WalkAnswer::Refused(Refusal::ShortBuffer);
+        return Err(Refusal::ShortBuffer);
     }
     if latest.len() < watched || recording.len() < t * watched {
-        return WalkAnswer::Refused(Refusal::ShortBuffer);
+        return Err(Refusal::ShortBuffer);
     }
     let clipped = walk_ticks(
-        table,
-        shape,
-        index(n),
+        circuit,
+        index(counts.inputs),
         wide,
         need,
         probes,
@@ -180,10 +157,10 @@ fn walk_circuit(
         latest,
         recording,
     );
-    WalkAnswer::Samples {
+    Ok(Samples {
         count: total as u32,
         clipped,
-    }
+    })
 }
 
 // One call with probes, with any table: the table's refusals, then 11, 14, 15 and 12; else its output samples, the cells after them, what the probes show at
@@ -198,24 +175,16 @@ pub fn walk_probed(
     outputs: &mut [u32],
     latest: &mut [u32],
     recording: &mut [u32],
-) -> WalkAnswer
+) -> Result<Samples, Refusal>
     ensures { probed_as (ran_as (answer_of result) cells.new outputs.new) latest.new recording.new
         ≡ probed_table table.now probes.now ticks inputs.now controls.now cells.old outputs.old latest.old recording.old }
 {
     let mut shape = [0u32; SHAPE];
-    let answer = survey(table, &mut shape);
-    match answer {
-        CheckAnswer::Refused(r) => WalkAnswer::Refused(r),
-        CheckAnswer::Accepted {
-            inputs: n,
-            outputs: m,
-            instructions: _,
-            cells: count,
-        } => walk_circuit(
-            table, &shape, n, m, count, probes, ticks, inputs, controls, cells, outputs, latest,
-            recording,
-        ),
-    }
+    let counts = survey(table, &mut shape)?;
+    let circuit = Circuit::new(table, &shape);
+    walk_circuit(
+        &circuit, counts, probes, ticks, inputs, controls, cells, outputs, latest, recording,
+    )
 }
 
 // One call without probes: the table's refusals, then 11, 14 and 12; else its output samples, and the cells after them.
@@ -226,7 +195,7 @@ pub fn walk(
     controls: &[u32],
     cells: &mut [u32],
     outputs: &mut [u32],
-) -> WalkAnswer
+) -> Result<Samples, Refusal>
     ensures { ran_as (answer_of result) cells.new outputs.new
         ≡ walked_table table.now ticks inputs.now controls.now cells.old outputs.old }
 {

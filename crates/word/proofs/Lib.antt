@@ -1,6 +1,7 @@
 pub mod Lists
 pub mod Each
 pub mod Low
+mod Unnumbered
 pub mod Selector
 pub mod Forms
 pub mod Exceptions

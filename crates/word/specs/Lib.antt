@@ -4,3 +4,4 @@ pub mod Limits
 pub mod LowBits
 pub mod Operation
 pub mod Tick
+pub mod Table

@@ -1,5 +1,5 @@
 -- Before node i the state holds and i rows are filled.
-use Rattle.std.proofs.Common.{◌≡◌, ◌-◌, ◌≤◌}
+use Rattle.std.proofs.Common.{◌≡◌}
 use Rattle.arity.specs.Check.{first_cell}
 use Rattle.arity.specs.Survey.{filled}
 use Rattle.arity.specs.Steps.{State}
@@ -7,10 +7,6 @@ use Rattle.arity.proofs.survey.Given as goal
 
 abbrev pub invariant-loop-i : goal.invariant-loop-i
 invariant-loop-i l =
-    (l.i ≤ l.n)
-    × State l.table l.shape l.marks l.i
+    State l.table l.shape l.marks l.i
     × (l.cells ≡ first_cell l.table l.i)
     × (l.shape ≡ filled l.table l.i l.fn.shape)
-
-abbrev pub decreases-loop-i : goal.decreases-loop-i
-decreases-loop-i l = l.n - l.i

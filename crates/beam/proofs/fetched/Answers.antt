@@ -1,22 +1,18 @@
 -- `beam::fetched` meets its contract.
-use Prim.Native.Nat.{ℕ, ◌≤◌}
-use mathlib.Core.Path.{◌≡◌, sym, ap, ◌∙◌}
+use Prim.Native.Nat.{ℕ}
+use mathlib.Core.Path.{◌≡◌, sym, ◌∙◌}
+use mathlib.Core.List.{List, ◌++◌}
 use native.Mathlib.Omega.{arith}
-use lib.ListN.{length, take, length-set}
-use lib.Seq.{take_all}
-use Rattle.cells.specs.Cells.{part}
-use Rattle.cells.proofs.Parts.{part_length, part_at}
-use Rattle.beam.proofs.Filling.{fill-first}
+use lib.ListN.{length, take}
+use lib.Seq.{take_at}
+use Rattle.cells.proofs.Parts.{part_length, part-take}
+use Rattle.cells.proofs.Playing.{part-is}
 use Rattle.beam.proofs.fetched.Goals as goal
 
-pub loop-i-preserved : goal.loop-i-preserved
-loop-i-preserved c =
-    let l : length c.loop-i.r ≡ 32 = c.loop-i.invariant.1 in
-    let k : length (part c.args.base c.args.n c.args.cells.now) ≡ c.args.n = part_length _ _ _ in
-    (omega arith, simp length-set l, fill-first c.loop-i.r (part c.args.base c.args.n c.args.cells.now) c.loop-i.i _ (omega arith) (omega arith) (sym (part_at c.args.base c.args.n c.loop-i.i c.args.cells.now (omega arith))) c.loop-i.invariant.2)
+in_front : (n : ℕ) (p ys rest : List ℕ) → ys ≡ p → length p ≡ n → take n (ys ++ rest) ≡ p
+in_front n p ys rest e l = rw e (take_at p rest n l)
 
 pub returns : goal.returns
 returns c =
-    let z : c.loop-i.i ≡ c.args.n = omega arith in
-    let m : length (part c.args.base c.args.n c.args.cells.now) ≤ c.loop-i.i = omega (arith, part_length c.args.base c.args.n c.args.cells.now) in
-    ap (λ (k : ℕ). take k c.loop-i.r) (sym z) ∙ c.loop-i.invariant.2 ∙ take_all _ _ m
+    in_front _ _ _ _ (c.copy_from_slice.ensures.after ∙ part-is c.args.base c.args.n c.args.cells.now ∙ sym (part-take c.args.base c.args.n c.args.cells.now (omega arith)))
+    (part_length c.args.base c.args.n c.args.cells.now)

@@ -7,9 +7,9 @@ use Rattle.beam.proofs.repeated.Goals as goal
 
 pub loop-i-preserved : goal.loop-i-preserved
 loop-i-preserved c =
-    let l : length c.loop-i.r ≡ 32 = c.loop-i.invariant.1 in
-    (omega arith, simp length-set l, repeats_next c.args.b c.args.a (omega (arith, c.well_formed.0.1.0.1)) c.loop-i.r c.loop-i.i _ c.loop-i.invariant.0 (omega arith) refl c.loop-i.invariant.2)
+    let l : length c.loop-i.r ≡ 32 = c.loop-i.invariant.0 in
+    (simp length-set l, repeats_next c.args.b c.args.a (omega (arith, c.well_formed.0.1.0.1)) c.loop-i.r c.loop-i.i _ (omega arith) (omega arith) refl c.loop-i.invariant.1)
 
 pub returns : goal.returns
 returns c =
-    repeats_all c.args.b c.args.a (omega (arith, c.well_formed.0.1.0.1)) c.loop-i.r c.loop-i.i c.args.n (omega arith) (omega (arith, c.loop-i.invariant.1)) c.loop-i.invariant.2
+    repeats_all c.args.b c.args.a (omega (arith, c.well_formed.0.1.0.1)) c.loop-i.r c.loop-i.i c.args.n (omega arith) (omega (arith, c.loop-i.invariant.0)) c.loop-i.invariant.1

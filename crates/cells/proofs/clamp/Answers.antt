@@ -10,8 +10,8 @@ returns-then-a-d c =
     let small : c.args.amount < 2 ^ 31 = omega (arith, c.requires, c.index-a.ensures, c.if-a-d.true) in
     (rw (clamp_form, lt-ltb _ _ small) (omega (arith, c.index-a.ensures, c.if-a-d.true)), omega (arith, c.if-a-d.true))
 
-pub returns-then-amount-lt2147483648 : goal.returns-then-amount-lt2147483648
-returns-then-amount-lt2147483648 c = (rw (clamp_form, lt-ltb _ _ c.if-amount-lt2147483648.true) (omega (arith, c.index-a.ensures, c.if-a-d.false)), omega arith)
+pub returns-then-amount-lt-HALF : goal.returns-then-amount-lt-HALF
+returns-then-amount-lt-HALF c = (rw (clamp_form, lt-ltb _ _ c.if-amount-lt-HALF.true) (omega (arith, c.index-a.ensures, c.if-a-d.false)), omega arith)
 
 pub returns : goal.returns
-returns c = (rw (clamp_form, le-ltb _ _ c.if-amount-lt2147483648.false), omega arith)
+returns c = (rw (clamp_form, le-ltb _ _ c.if-amount-lt-HALF.false), omega arith)

@@ -4,5 +4,5 @@ use Rattle.calls.specs.Probed.{Probed}
 use Rattle.circuit.proofs.Reports.{few-answer, probed-few}
 use Rattle.circuit.proofs.circuit_walk_probed.Goals as goal
 
-pub walked-requires : goal.walked-requires
-walked-requires c = few-answer _ (ap (λ (y : Probed). y.ran) c.walk_probed-answer.ensures) (probed-few _ _ _ _ _ _ _ _ _)
+pub reported-requires : goal.reported-requires
+reported-requires c = few-answer _ (ap (λ (y : Probed). y.ran) c.walk_probed.ensures) (probed-few _ _ _ _ _ _ _ _ _)

@@ -2,8 +2,5 @@
 use Rattle.listing.proofs.Laying.{Laying}
 use Rattle.listing.proofs.put_lines.Given as goal
 
-abbrev pub invariant-loop-left : goal.invariant-loop-left
-invariant-loop-left l = Laying l.numbers l.width l.count l.initial.text l.from l.text l.left l.first l.at
-
-abbrev pub decreases-loop-left : goal.decreases-loop-left
-decreases-loop-left l = l.left
+abbrev pub invariant-loop-line : goal.invariant-loop-line
+invariant-loop-line l = Laying l.numbers l.width l.count l.initial.text l.from l.text l.line l.at

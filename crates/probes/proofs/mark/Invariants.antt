@@ -1,10 +1,6 @@
 -- `probes::mark` meets its contract.
-use Prim.Native.Nat.{◌-◌, ◌≤◌}
 use Rattle.probes.proofs.Marking.{Marking}
 use Rattle.probes.proofs.mark.Given as goal
 
 abbrev pub invariant-loop-k : goal.invariant-loop-k
-invariant-loop-k l = Marking l.probes l.k l.marks × (l.k ≤ l.count)
-
-abbrev pub decreases-loop-k : goal.decreases-loop-k
-decreases-loop-k l = l.count - l.k
+invariant-loop-k l = Marking l.probes l.k l.marks

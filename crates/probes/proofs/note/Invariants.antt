@@ -1,5 +1,5 @@
 -- `probes::note` meets its contract.
-use Prim.Native.Nat.{ℕ, ◌-◌}
+use Prim.Native.Nat.{ℕ}
 use mathlib.Core.List.{List}
 use lib.ListN.{length}
 use Rattle.probes.specs.Marks.{Probing, Marked}
@@ -8,6 +8,3 @@ use Rattle.probes.proofs.note.Given as goal
 
 abbrev pub invariant-loop-i : goal.invariant-loop-i
 invariant-loop-i l = (xs : List ℕ) → Probing xs (length l.initial.latest) → Marked xs (length l.initial.latest) l.marks → Noting xs l.marks l.node l.at l.y l.initial.latest l.i l.latest
-
-abbrev pub decreases-loop-i : goal.decreases-loop-i
-decreases-loop-i l = l.count - l.i

@@ -5,7 +5,7 @@ use Rattle.walker.proofs.Walking.{watching, all-walked, stored_over}
 use Rattle.walker.proofs.walk_ticks.Goals as goal
 
 pub mark-requires : goal.mark-requires
-mark-requires c = record { probing = probing c.requires.walkable.surveyed.ready c.requires.watchable.named; clear = record { is = refl } }
+mark-requires c = record { probing = probing c.requires.walkable.surveyed.promise c.requires.watchable.named; clear = record { is = refl } }
 
 pub returns : goal.returns
 returns c =

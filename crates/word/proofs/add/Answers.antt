@@ -1,5 +1,5 @@
 -- `word::add` meets its contract.
-use Rattle.std.proofs.Common.{sym, ◌∙◌}
+use Rattle.std.proofs.Common.{sym}
 use Rattle.word.specs.Operation.{add}
 use Rattle.word.specs.LowBits.Arithmetic.{sum}
 use Rattle.word.proofs.Forms.{word_form}
@@ -7,4 +7,4 @@ use Rattle.word.proofs.add.Goals as goal
 
 pub returns : goal.returns
 unfolding add
-returns c = c.wrapping_add_u32.ensures.value ∙ sym (word_form sum _ _ c.ranges.a.fits c.ranges.b.fits)
+returns c = sym (word_form sum _ _ c.ranges.a.fits c.ranges.b.fits)

@@ -4,6 +4,4 @@ use Rattle.word.proofs.Forms.{negate_form}
 use Rattle.word.proofs.negate.Goals as goal
 
 pub returns : goal.returns
-returns c =
-    rw (negate_form _ c.ranges.a.fits)
-    (omega (arith, c.wrapping_sub_u32.ensures.value, c.wrapping_sub_u32.type_inv))
+returns c = rw (negate_form _ c.ranges.a.fits) (omega (arith, c.ranges.a.fits))

@@ -1,64 +1,27 @@
--- `column::reader::check_lines` meets its contract: lines before this one are right, and in it the columns before this one.
-use mathlib.Core.Path.{sym, ◌∙◌}
-use native.Mathlib.Omega.{arith}
-use lib.ListN.{drop}
-use Rattle.refusal.specs.declared.Refusal.TheVariants.{MalformedLine, WrongNodeNumber, WrongNodeCount}
-use Rattle.refusal.specs.Answer.{refused_at}
-use Rattle.column.proofs.Judged.{one_line_more, line_not_whole, column-malformed, column_wrong_node, column_right_node, column-right}
-use Rattle.column.proofs.Checking.{check_empty, check_done, check_refused, columns_start, column_passed, column-refused}
+-- `column::reader::check_lines` meets its contract: the lines before what is left are right.
+use Rattle.std.proofs.Common.{sym, ◌∙◌, arith, eqb-true}
+use Rattle.std.proofs.lemmas.Bool.{eqb-false}
+use Rattle.std.proofs.lemmas.Result.{err_from_is_err_and}
+use Rattle.column.proofs.Lines.{chunk_front}
+use Rattle.column.proofs.Checking.{check_empty, check_done, check_many, line_refused, line_passed}
 use Rattle.column.proofs.reader.check_lines.Goals as goal
-use Rattle.column.proofs.reader.check_lines.Goals.{then-column-eq0+else-word-line, else-column-eq0}
 
-pub returns-then-file-eq0 : goal.returns-then-file-eq0
-returns-then-file-eq0 c = check_empty c.args.file.now c.if-file-eq0.true
-
-pub loop-column-init : goal.loop-column-init
-loop-column-init c =
-    let n = c.lines in
-    columns_start c.args.file.now n.at n.line (omega arith) (sym c.is_whole.ensures ∙ c.if-not-is_whole.false)
-
-pub loop-column-preserved : goal.loop-column-preserved
-loop-column-preserved c =
-    let l = c.loop-column in
-    let n = c.lines in
-    let a = c.args in
-    let column-at = c.column_at-read in
-    column_passed _ _ _ _ l.invariant c.loop-column-test.true
-    (elim c.if-column-eq0.branch [
-      | then-column-eq0+else-word-line w ↦ column_right_node n.line (drop n.at a.file.now) l.column column-at.result column-at.ensures c.in-Word.word c.in-Word.is w.if-column-eq0.true w.if-word-line.false (omega arith)
-      | else-column-eq0 w ↦ column-right n.line (drop n.at a.file.now) l.column column-at.result column-at.ensures c.in-Word.word c.in-Word.is w.if-column-eq0.false
-    ])
-
-pub returns-then-at-file : goal.returns-then-at-file
-returns-then-at-file c = check_done _ _ _ c.if-file-eq0.false c.lines.invariant c.if-at-file.true
+pub returns-then-is_empty : goal.returns-then-is_empty
+returns-then-is_empty c = check_empty c.args.file.now (eqb-true _ 0 (sym c.if-is_empty.ensures))
 
 pub returns-then-line-eq-MOST_NODES : goal.returns-then-line-eq-MOST_NODES
-returns-then-line-eq-MOST_NODES c =
-    let n = c.lines in
-    check_refused _ _ _ c.if-file-eq0.false n.invariant (WrongNodeCount 512) (one_line_more c.args.file.now n.at n.line (omega arith) (omega arith))
+returns-then-line-eq-MOST_NODES c = check_many _ _ _ (eqb-false _ 0 (sym c.if-is_empty.ensures)) c.loop-bytes.invariant.1 c.in-Some.ensures.steps.1.2 (omega arith)
 
-pub returns-then-not-is_whole : goal.returns-then-not-is_whole
-returns-then-not-is_whole c =
-    let n = c.lines in
-    check_refused _ _ _ c.if-file-eq0.false n.invariant (MalformedLine n.line)
-    (line_not_whole c.args.file.now n.at n.line (omega arith) (omega arith) (sym c.is_whole.ensures ∙ c.if-not-is_whole.true))
+pub returns-in_err-check_line : goal.returns-in_err-check_line
+returns-in_err-check_line c =
+    let p = err_from_is_err_and c.from_residual.result c.from_residual.ensures.1 in
+    let front = chunk_front _ _ _ c.in-Some.ensures.steps.1.0 (rw c.loop-bytes.invariant.0 at c.in-Some.ensures.steps.1.1) in
+    rw (p.1, p.2) (line_refused _ _ _ (eqb-false _ 0 (sym c.if-is_empty.ensures)) c.loop-bytes.invariant.1 c.in-Some.ensures.steps.1.2 _ (rw front.0 at c.in_err-check_line.ensures))
 
-pub returns-in_default : goal.returns-in_default
-returns-in_default c =
-    let if1 = c.if-file-eq0 in
-    let n = c.lines in
-    let l = c.loop-column in
-    let a = c.args in
-    let column-at = c.column_at-read in
-    check_refused _ _ _ if1.false n.invariant (MalformedLine n.line)
-    (column-refused _ _ _ _ l.invariant (refused_at 1 n.line) c.loop-column-test.true (column-malformed n.line (drop n.at a.file.now) l.column column-at.result column-at.ensures c.in_default.is))
+pub loop-bytes-preserved : goal.loop-bytes-preserved
+loop-bytes-preserved c =
+    let front = chunk_front _ _ _ c.in-Some.ensures.steps.1.0 (rw c.loop-bytes.invariant.0 at c.in-Some.ensures.steps.1.1) in
+    (c.in-Some.ensures.steps.0 ∙ c.loop-bytes.invariant.0, rw front.1 (line_passed _ _ _ (eqb-false _ 0 (sym c.if-is_empty.ensures)) c.loop-bytes.invariant.1 c.in-Some.ensures.steps.1.2 (omega (arith, c.loop-bytes.invariant.1.few)) (rw front.0 at c.in_ok-check_line.ensures)))
 
-pub returns-then-word-line : goal.returns-then-word-line
-returns-then-word-line c =
-    let if1 = c.if-file-eq0 in
-    let n = c.lines in
-    let l = c.loop-column in
-    let a = c.args in
-    let column-at = c.column_at-read in
-    check_refused _ _ _ if1.false n.invariant (WrongNodeNumber n.line)
-    (column-refused _ _ _ _ l.invariant (refused_at 2 n.line) c.loop-column-test.true (column_wrong_node n.line (drop n.at a.file.now) l.column column-at.result column-at.ensures c.in-Word.word c.in-Word.is c.if-column-eq0.true c.if-word-line.true))
+pub returns : goal.returns
+returns c = check_done _ _ _ (eqb-false _ 0 (sym c.if-is_empty.ensures)) c.loop-bytes.invariant.1 c.in-None.ensures.steps.1.0

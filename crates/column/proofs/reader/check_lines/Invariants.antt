@@ -1,17 +1,7 @@
--- `column::reader::check_lines` meets its contract: lines before this one are right, and in it the columns before this one.
-use Prim.Native.Nat.{◌-◌}
-use lib.ListN.{length}
-use Rattle.column.proofs.Checking.{Checking, Columns}
+use Rattle.std.proofs.Common.{◌≡◌}
+use Rattle.std.specs.Slice.Iter.{chunks_rest, chunks_size}
+use Rattle.column.proofs.Checking.{Checking}
 use Rattle.column.proofs.reader.check_lines.Given as goal
 
-abbrev pub invariant-loop-column : goal.invariant-loop-column
-invariant-loop-column l = Columns l.file l.at l.line l.column
-
-abbrev pub decreases-loop-column : goal.decreases-loop-column
-decreases-loop-column l = 4 - l.column
-
-abbrev pub invariant-lines : goal.invariant-lines
-invariant-lines l = Checking l.file l.at l.line
-
-abbrev pub decreases-lines : goal.decreases-lines
-decreases-lines l = length l.file - l.at
+abbrev pub invariant-loop-bytes : goal.invariant-loop-bytes
+invariant-loop-bytes l = (chunks_size l.bytes-iterator ≡ 41) × Checking l.file (chunks_rest l.bytes-iterator) l.line

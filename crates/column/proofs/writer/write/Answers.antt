@@ -2,16 +2,15 @@
 use native.Mathlib.Omega.{arith}
 use Rattle.column.proofs.Writes.{write-empty, write-uneven, write_many, write-short, write-put}
 use Rattle.column.proofs.writer.write.Goals as goal
+use Rattle.column.proofs.writer.write.Goals.{then-numbers-eq0-via-then-numbers-eq0, then-numbers-eq0-via-else-numbers-eq0+then-numbers-ne0}
 
 pub returns-then-numbers-eq0 : goal.returns-then-numbers-eq0
 returns-then-numbers-eq0 c =
     let a = c.args in
-    write-empty a.table.now a.file.now c.if-numbers-eq0.true
-
-pub returns-then-numbers-ne0 : goal.returns-then-numbers-ne0
-returns-then-numbers-ne0 c =
-    let a = c.args in
-    write-uneven a.table.now a.file.now c.if-numbers-eq0.false c.if-numbers-ne0.true
+    elim c.then-numbers-eq0.branch [
+      | then-numbers-eq0-via-then-numbers-eq0 w ↦ write-empty a.table.now a.file.now w.if-numbers-eq0.true
+      | then-numbers-eq0-via-else-numbers-eq0+then-numbers-ne0 w ↦ write-uneven a.table.now a.file.now w.if-numbers-eq0.false w.if-numbers-ne0.true
+    ]
 
 pub returns-then-nodes-gt-NODES : goal.returns-then-nodes-gt-NODES
 returns-then-nodes-gt-NODES c =

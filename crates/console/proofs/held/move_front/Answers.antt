@@ -1,9 +1,8 @@
-use Rattle.std.proofs.Common.{◌-◌, refl, arith}
-use Rattle.console.proofs.Moves.{moved, moving_next}
+use Rattle.console.proofs.Moves.{moved, stays}
 use Rattle.console.proofs.held.move_front.Goals as goal
 
-pub returns : goal.returns
-returns c = moved c.args.buffer.now c.args.at _ (omega arith) c.loop-i.buffer c.loop-i.i c.loop-i.invariant c.args.end refl c.loop-i-test.false
+pub returns-then-at-eq0 : goal.returns-then-at-eq0
+returns-then-at-eq0 c = stays _ _ _ c.if-at-eq0.true c.requires.1
 
-pub loop-i-preserved : goal.loop-i-preserved
-loop-i-preserved c = moving_next c.args.buffer.now c.args.at (c.args.end - c.args.at) (omega arith) c.loop-i.buffer c.loop-i.i c.loop-i.invariant c.loop-i-test.true
+pub returns : goal.returns
+returns c = moved _ _ _ c.requires.0 c.requires.1 c.copy_within.ensures.after

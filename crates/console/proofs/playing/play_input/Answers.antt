@@ -12,6 +12,8 @@ slice_bounds-translate_file-end-2 g c = sym (length-take-le _ _ (omega (arith, c
 pub overflow_add-first : goal.overflow_add-first
 overflow_add-first g c = omega (arith, circuit_ends _ c.in_ok-end.ensures c.circuit_bytes-circuit.ensures, c.in_ok-end.ensures)
 
-pub play_code-requires : goal.play_code-requires
-play_code-requires g c =
-    (c.in_ok-numbers.ensures.head (omega arith), record { order = omega (arith, circuit_ends _ c.in_ok-end.ensures c.circuit_bytes-circuit.ensures, c.if-circuit-end.false); within = c.in_ok-end.ensures })
+pub new-requires : goal.new-requires
+new-requires g c = c.in-Ok.ensures.head
+
+pub play-requires : goal.play-requires
+play-requires g c = record { order = omega (arith, circuit_ends _ c.in_ok-end.ensures c.circuit_bytes-circuit.ensures, c.if-circuit-end.false); within = c.in_ok-end.ensures }

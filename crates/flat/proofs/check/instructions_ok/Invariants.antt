@@ -1,5 +1,5 @@
 -- `flat::check::instructions_ok` meets its contract: the check of the whole is the check of what is left.
-use Prim.Native.Nat.{◌+◌, ◌-◌, ◌*◌, ◌≤◌}
+use Prim.Native.Nat.{◌+◌, ◌-◌, ◌*◌}
 use mathlib.Core.Path.{◌≡◌}
 use lib.ListN.{drop}
 use Rattle.flat.specs.Flat.{width}
@@ -10,7 +10,4 @@ use Rattle.flat.proofs.check.instructions_ok.Given as goal
 
 abbrev pub invariant-loop-own : goal.invariant-loop-own
 invariant-loop-own l =
-    (l.own ≤ l.end) × ((l.p + width * (l.end - l.own) ≡ results_at l.count) × Checking l.cells l.end l.code (instructions_ok l.cells l.end l.first (instructions_of l.count (drop header l.code))) l.own l.p)
-
-abbrev pub decreases-loop-own : goal.decreases-loop-own
-decreases-loop-own l = l.end - l.own
+    ((l.p + width * (l.end - l.own) ≡ results_at l.count) × Checking l.cells l.end l.code (instructions_ok l.cells l.end l.first (instructions_of l.count (drop header l.code))) l.own l.p)

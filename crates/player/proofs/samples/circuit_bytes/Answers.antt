@@ -1,5 +1,5 @@
 -- `player::samples::circuit_bytes` meets its contract: no empty line stands before `at`.
-use borrow.Author.Rules.{rules}
+use Rattle.std.proofs.Common.{rules}
 use Rattle.player.specs.Samples.{circuit_part}
 use Rattle.player.proofs.samples.circuit_bytes.Goals as goal
 

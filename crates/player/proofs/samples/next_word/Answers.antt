@@ -1,20 +1,15 @@
--- `player::samples::next_word` meets its contract: only spaces stand between `at` and `begin`.
-use mathlib.Core.Path.{◌∙◌}
-use native.Mathlib.Omega.{arith}
-use Rattle.player.proofs.Words.{words-space, no_word, a_word}
+-- `player::samples::next_word` meets its contract: only spaces stand before the word.
+use Rattle.number.proofs.Scan.{rest_lent}
+use Rattle.player.proofs.Words.{no_word, a_word}
 use Rattle.player.proofs.samples.next_word.Goals as goal
 
-pub returns-then-line-begin-ne32 : goal.returns-then-line-begin-ne32
-returns-then-line-begin-ne32 c =
-    let l = c.loop-begin in
-    a_word c.args.line.now c.args.at l.begin l.invariant.0 l.invariant.1.0 l.invariant.1.1 c.find-end.result (omega arith) c.if-line-begin-ne32.true c.find-end.ensures
-
-pub loop-begin-preserved : goal.loop-begin-preserved
-loop-begin-preserved c =
-    let l = c.loop-begin in
-    (omega arith, (omega arith, l.invariant.1.1 ∙ words-space c.args.line.now l.begin (omega arith) c.if-line-begin-ne32.false))
+pub returns-in_err-rest : goal.returns-in_err-rest
+returns-in_err-rest c = rw c.from_residual.ensures (no_word _ c.in_err-rest.ensures)
 
 pub returns : goal.returns
 returns c =
-    let l = c.loop-begin in
-    no_word c.args.line.now c.args.at l.begin l.invariant.0 l.invariant.1.0 l.invariant.1.1 (omega arith)
+    let line = c.args.line.now in
+    let begin = c.in_ok-rest in
+    let e = rest_lent line begin.field-0 in
+    let w = a_word line begin.field-0 c.find.result begin.ensures.0 begin.ensures.1 (rw e at c.find.ensures) in
+    rw (c.split_at.ensures.front, c.split_at.ensures.back, c.unwrap_or-end.ensures, e) w

@@ -1,26 +1,13 @@
 -- `player::samples::said` meets its contract: the first word decides.
-use mathlib.Core.Path.{sym, ◌∙◌}
-use native.Mathlib.Omega.{arith}
-use Rattle.player.proofs.Sayings.{says_long, says_control, says_tick, says_nothing}
+use Rattle.std.proofs.Common.{◌∙◌, arith}
+use Rattle.player.proofs.Sayings.{says_long, says_control, says_tick}
 use Rattle.player.proofs.samples.said.Goals as goal
 
 pub returns-then-line-ge-LONGEST_LINE : goal.returns-then-line-ge-LONGEST_LINE
 returns-then-line-ge-LONGEST_LINE c = says_long c.args.line.now c.args.inputs (omega arith)
 
-pub returns-then-is_same : goal.returns-then-is_same
-returns-then-is_same c =
-    let a = c.args in
-    let next_word = c.next_word-first in
-    c.setting.ensures ∙ says_control a.line.now a.inputs (omega arith) next_word.result next_word.ensures (sym c.is_same.ensures ∙ c.if-is_same.true)
-
-pub returns-then-is_tick : goal.returns-then-is_tick
-returns-then-is_tick c =
-    let a = c.args in
-    let next_word = c.next_word-first in
-    says_tick a.line.now a.inputs (omega arith) next_word.result next_word.ensures (sym c.is_same.ensures ∙ c.if-is_same.false) (sym c.is_tick.ensures ∙ c.if-is_tick.true)
+pub returns-in-Some : goal.returns-in-Some
+returns-in-Some c = c.setting.ensures ∙ says_control c.args.line.now c.args.inputs (omega arith) c.in-Some.rest.now c.in-Some.ensures
 
 pub returns : goal.returns
-returns c =
-    let a = c.args in
-    let next_word = c.next_word-first in
-    says_nothing a.line.now a.inputs (omega arith) next_word.result next_word.ensures (sym c.is_same.ensures ∙ c.if-is_same.false) (sym c.is_tick.ensures ∙ c.if-is_tick.false)
+returns c = c.then_some.ensures ∙ rw c.is_tick.ensures (says_tick c.args.line.now c.args.inputs (omega arith) c.in_default.ensures)

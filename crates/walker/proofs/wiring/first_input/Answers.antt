@@ -1,14 +1,16 @@
 -- `walker::wiring::first_input` meets its contract.
 use mathlib.Core.Path.{sym, ◌∙◌}
 use native.Mathlib.Omega.{arith}
-use Rattle.walker.proofs.Wires.{own-cell, right-inputs, cells-room, right_few_inputs, first-same}
+use Rattle.arity.specs.declared.kinds.Kind.TheVariants.{Recursion}
+use Rattle.walker.proofs.ByKind.{same_kind}
+use Rattle.walker.proofs.Wires.{right-inputs, cells-room, right_few_inputs, first-same}
 use Rattle.walker.proofs.wiring.first_input.Goals as goal
 
 pub fetched-requires : goal.fetched-requires
 fetched-requires c =
-    let a = own-cell c.requires.ready c.requires.joins c.cell_of.ensures in
-    let b = right-inputs c.requires.ready c.requires.joins (c.index-right.ensures ∙ c.second_of.ensures) c.inputs_of.ensures in
-    omega (arith, right_few_inputs c.requires.ready c.requires.joins, cells-room c.requires.ready c.requires.joins (sym c.kind_of.ensures ∙ c.if-kind_of-eq11.true) c.requires.roomy)
+    let p = c.in-Recursion.ensures.promise in
+    let b = right-inputs p c.requires.joins c.right.ensures.value c.inputs.ensures in
+    omega (arith, c.cell.ensures.value, right_few_inputs p c.requires.joins, cells-room p c.requires.joins (sym c.in-Recursion.ensures.value) c.requires.roomy)
 
-pub returns : goal.returns
-returns c = first-same c.requires.ready c.requires.joins (λ e. c.if-kind_of-eq11.false (c.kind_of.ensures ∙ e))
+pub returns-in_default : goal.returns-in_default
+returns-in_default c = first-same c.kind.ensures.promise c.requires.joins (λ e. c.in_default.not-Recursion (same_kind _ Recursion (c.kind.ensures.value ∙ e)))

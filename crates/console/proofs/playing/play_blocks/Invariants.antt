@@ -1,5 +1,0 @@
-use Rattle.console.specs.Held.{Stands}
-use Rattle.console.proofs.playing.play_blocks.Given as goal
-
-abbrev pub invariant-loop : goal.invariant-loop
-invariant-loop g l = Stands l.rest l.buffer

@@ -1,5 +1,0 @@
-use Rattle.console.proofs.Blocks.{block-put}
-use Rattle.console.proofs.playing.put_block.Goals as goal
-
-pub returns : goal.returns
-returns c = block-put c.args.code.now c.args.ticks c.args.samples.now c.args.controls.now _ _ _ _ _ _ c.index.result c.index-2.result _ c.index.ensures c.index-2.ensures c.run.ensures c.put_ticks.ensures
