@@ -1,7 +1,7 @@
 -- The sums of a merge: a term more of one sum, and a sum more.
 use Prim.Native.Nat.{ℕ, suc, ◌+◌, ◌-◌, ◌<◌}
 use mathlib.Core.Path.{◌≡◌, sym, ap, ◌∙◌}
-use mathlib.Core.List.{List, ◌++◌, append_assoc, append-nil}
+use mathlib.Core.List.{List, ◌++◌, append_assoc}
 use native.Mathlib.Omega.{arith}
 use native.Mathlib.Numerals.{add-one}
 use lib.ListN.{length, get_or, set, take}
@@ -25,9 +25,3 @@ sums_next r xs all b k i v l h e s =
     let z : b - i ≡ suc (b - suc i) = omega arith in
     let t : take i r ++ sums_from (suc (b - suc i)) k b i xs ≡ all = rw z at s in
     rw (add-one i, take-suc-set r i v h, append_assoc, e) t
-
-pub sums_done : (r xs all : List ℕ) (b k i : ℕ) → i ≡ b → take i r ++ sums_from (b - i) k b i xs ≡ all → take b r ≡ all
-sums_done r xs all b k i e s =
-    let z : b - i ≡ 0 = omega arith in
-    let t : take i r ++ sums_from 0 k b i xs ≡ all = rw z at s in
-    ap (λ (n : ℕ). take n r) (sym e) ∙ sym (append-nil (take i r)) ∙ t

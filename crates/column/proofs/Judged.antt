@@ -121,13 +121,6 @@ other-column i zero z n = absurd (n refl)
 other-column i (suc j) z n = refl
 
 module _ (i : ℕ) (l : List ℕ) (j : ℕ) where
-  pub column-malformed : None ≡ found (number_in (column_of j l)) → column_refusal i l j ≡ some (refused_at 1 i)
-  column-malformed e = go (number_in (column_of j l)) e
-    where
-      go : (o : Option ℤ) → None ≡ found o → number_refusal i j o ≡ some (refused_at 1 i)
-      go none q = refl
-      go (some z) q = cc
-
   number_word : (w : ℕ) → Some w ≡ found (number_in (column_of j l)) → (z : ℤ) × ((number_in (column_of j l) ≡ some z) × ((low z ≡ w) × (fits z ≡ true)))
   number_word w e = go (number_in (column_of j l)) refl
     where
@@ -172,9 +165,6 @@ module _ (bytes : List ℕ) (line column : ℕ) (p : Columns bytes line column) 
 
   pub column-refused : (a : Answer) → column < 4 → column_refusal line bytes column ≡ some a → some a ≡ line_refusal line (first_line bytes)
   column-refused a h e = sym (p.left ∙ next-column h ∙ rw e)
-
-  pub columns_end : 4 ≤ column → none ≡ line_refusal line (first_line bytes)
-  columns_end h = let z : 4 - column ≡ 0 = omega arith in sym (p.left ∙ rw z)
 
 pub not_whole : (bytes : List ℕ) (line : ℕ) → line < 512 → whole (first_line bytes) ≡ false → some (refused_at 1 line) ≡ line_refusal line (first_line bytes)
 unfolding line_refusal

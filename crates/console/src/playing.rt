@@ -1,6 +1,6 @@
 // A circuit played on the samples behind it: the column file, an empty line, then a line a tick. The only error is that of
 // a read or a write that failed, and it is answered at once: of what was lent to be changed only its length is known then.
-ghost use Rattle.std.specs.Prelude.{◌≡◌, ◌*◌, ◌<◌, ◌≤◌, length, IfSome, IfOk, OnOk};
+ghost use Rattle.std.specs.Prelude.{◌≡◌, ◌*◌, ◌<◌, ◌≤◌, length, set, IfSome, IfOk, OnOk};
 ghost use Rattle.std.specs.Io.KnownBytes.{Keeps};
 ghost use Rattle.flat.specs.Code.{input_count};
 ghost use Rattle.flat.specs.Steps.{Header};
@@ -79,7 +79,9 @@ impl<'a> Player<'a> {
     // Runs a block of ticks and puts their lines into the text; gives how many bytes these have.
     fn put_block(&mut self, ticks: usize, samples: &[u32], text: &mut [u8; 98304]) -> usize
         requires { (ticks ≤ 256) × (ticks * input_count self.old.code.now ≤ length samples.now) }
-        ensures { BlockPut self.old.code.now ticks samples.now self.old.controls self.old.cells text.old result self.new.cells text.new }
+        ensures put { BlockPut self.old.code.now ticks samples.now self.old.controls self.old.cells text.old result self.new.cells text.new }
+        ensures code { self.new.code.now ≡ self.old.code.now }
+        ensures controls { self.new.controls ≡ self.old.controls }
     {
         let given = ticks * index(self.code[INPUTS]);
         let mut outputs = [0u32; 8192];
@@ -100,6 +102,8 @@ impl<'a> Player<'a> {
         ensures played { 0 < ticks → OnOk result (BlockPlayed self.old.code.now ticks samples.now self.old.controls
             self.old.cells (W.contents out.old) self.new.cells (W.contents out.new)) }
         ensures idle { ticks ≡ 0 → (self.new.cells ≡ self.old.cells) × Keeps (W.contents out.old) (W.contents out.new) }
+        ensures code { self.new.code.now ≡ self.old.code.now }
+        ensures controls { self.new.controls ≡ self.old.controls }
     {
         if ticks == 0 {
             return Ok(());
@@ -110,9 +114,14 @@ impl<'a> Player<'a> {
     }
 
     // A control holds from the next tick on.
-    fn set_control(&mut self, slot: u32, value: u32) {
-        if let Some(control) = self.controls.get_mut(index(slot)) {
-            *control = value;
+    fn set_control(&mut self, slot: u32, value: u32)
+        ensures controls { self.new.controls ≡ set self.old.controls slot value }
+        ensures cells { self.new.cells ≡ self.old.cells }
+        ensures code { self.new.code.now ≡ self.old.code.now }
+    {
+        let at = index(slot);
+        if at < CONTROLS {
+            self.controls[at] = value;
         }
     }
 

@@ -8,11 +8,11 @@ use borrow.Author.Tests.{leb-true, eqb-true, eqb-false, ltb-true, ltb-false, le-
 use lib.Dec.{eqb, leb, ltb}
 use lib.ListN.{length, get_or, take}
 use lib.Seq.{get_or-take}
-use Rattle.word.specs.Choice.{◌and◌, ◌or◌, pick}
+use Rattle.word.specs.Choice.{◌and◌, pick}
 use Rattle.word.specs.Word.{clipped}
 use Rattle.word.specs.Operation.{operate, operands, demand}
 use Rattle.word.specs.Tick.{Each}
-use Rattle.word.proofs.Lists.{first-true, second-true, or_first}
+use Rattle.word.proofs.Lists.{first-true, second-true}
 use Rattle.word.proofs.OperandCounts.{in_table, reads_its_own}
 use Rattle.flat.specs.declared.keys.Key.{Key}
 use Rattle.flat.specs.declared.keys.Key.TheVariants.{Skip, Number, Control, Delay, Read, Write, Add, Subtract, Multiply, Quotient, Remainder, Less, Equal, Absolute, Negate, Select}
@@ -227,10 +227,6 @@ module _ {key : Key} {x : Instruction} {controls ρ cs : List ℕ} (w : Workable
       let z : operation_key x.a ≡ key_of x = rw o in
       (op_kept x.a (says_op _ _ _ _ w.ok o)).1 ∙ ap op_of (z ∙ sym w.keyed ∙ e)
 
-  -- what is no delay is not clipped
-  pub untold : {k : ℕ} {told : Bool} → x.code ≡ k → eqb k 4 ≡ false → told ≡ told or worked_clips x ρ
-  untold {told = told} e n = or_first told _ (rw (e, n))
-
   -- an operation, of the key k
   module _ {k : Key} (e : key ≡ k) (o : code_of k ≡ 3) where
     named : (x.b < length ρ) × ((x.c < length ρ) × (x.e < length ρ))
@@ -243,17 +239,17 @@ module _ {key : Key} {x : Instruction} {controls ρ cs : List ℕ} (w : Workable
     third_there = named.1.1
 
     -- with the third register's number t; of an operation that has no third input, with 0
-    op_works : {v s t : ℕ} {told : Bool} → (2 < operands (op_of k) → t ≡ get_or ρ x.e 0) → (v ≡ operate (op_of k) (get_or ρ x.b 0) (get_or ρ x.c 0) t) × (s ≡ 0)
-        → (worked controls x ρ cs ≡ effect v s cs) × (told ≡ told or worked_clips x ρ)
+    op_works : {v s t : ℕ} → (2 < operands (op_of k) → t ≡ get_or ρ x.e 0) → (v ≡ operate (op_of k) (get_or ρ x.b 0) (get_or ρ x.c 0) t) × (s ≡ 0)
+        → worked controls x ρ cs ≡ effect v s cs
     unfolding worked
-    op_works g h = let c = code_is e ∙ o in (rw (c, op_is e c, h.0, h.1) (ap (λ (v : ℕ). effect v 0 cs) (sym (reads_its_own (op_of k) _ (λ l. refl) g))), untold c refl)
+    op_works g h = let c = code_is e ∙ o in rw (c, op_is e c, h.0, h.1) (ap (λ (v : ℕ). effect v 0 cs) (sym (reads_its_own (op_of k) _ (λ l. refl) g)))
 
-    pub two-work : {v s : ℕ} {told : Bool} → ltb 2 (operands (op_of k)) ≡ false → (v ≡ operate (op_of k) (get_or ρ x.b 0) (get_or ρ x.c 0) 0) × (s ≡ 0)
-        → (worked controls x ρ cs ≡ effect v s cs) × (told ≡ told or worked_clips x ρ)
+    pub two-work : {v s : ℕ} → ltb 2 (operands (op_of k)) ≡ false → (v ≡ operate (op_of k) (get_or ρ x.b 0) (get_or ρ x.c 0) 0) × (s ≡ 0)
+        → worked controls x ρ cs ≡ effect v s cs
     two-work f = op_works (λ l. omega (arith, ltb-false 2 (operands (op_of k)) f))
 
-    pub three-work : {v s t : ℕ} {told : Bool} → t ≡ get_or ρ x.e 0 → (v ≡ operate (op_of k) (get_or ρ x.b 0) (get_or ρ x.c 0) t) × (s ≡ 0)
-        → (worked controls x ρ cs ≡ effect v s cs) × (told ≡ told or worked_clips x ρ)
+    pub three-work : {v s t : ℕ} → t ≡ get_or ρ x.e 0 → (v ≡ operate (op_of k) (get_or ρ x.b 0) (get_or ρ x.c 0) t) × (s ≡ 0)
+        → worked controls x ρ cs ≡ effect v s cs
     three-work f = op_works (λ l. f)
 
   pub control_there : key ≡ Control → x.a < length controls

@@ -5,7 +5,7 @@ use mathlib.Core.List.{List, [], ◌∷◌}
 use native.Mathlib.Numerals.{add-one}
 use native.Mathlib.Omega.{arith}
 use lib.IntN.{ℤ}
-use lib.ListN.{length, set, replicate, length-set, length-append, length-replicate, replicate-append-replicate}
+use lib.ListN.{length, set, replicate, length-set, length-append, length-replicate}
 use lib.Seq.{sets}
 use Rattle.word.specs.Word.{value}
 use Rattle.word.proofs.Low.{value-small, value_large}
@@ -46,13 +46,6 @@ pub putting_last : (line₀ : List ℕ) (end n : ℕ) (line : List ℕ) (at rest
 putting_last line₀ end n line at rest h p =
     let l : length (decimal rest) ≡ 1 = ap length (decimal-small rest (omega arith)) in
     (omega (arith, p.begin), ap (λ (t : List ℕ). sets line (at - 1) t) (sym (decimal-small rest (omega arith))) ∙ (rw l at p.done))
-
--- one space more, before those that are put
-pub spaces_next : (line : List ℕ) (from at : ℕ) → from < at → sets line from (replicate (at - from) space) ≡ sets (set line (at - 1) space) from (replicate (at - 1 - from) space)
-spaces_next line from at h =
-    let e : at - 1 - from + 1 ≡ at - from = omega arith in
-    let b : from + length (replicate (at - 1 - from) space) ≡ at - 1 = rw (length-replicate (at - 1 - from) space) (omega arith) in
-    rw (← e) (ap (sets line from) (sym (replicate-append-replicate (at - 1 - from) 1 space)) ∙ sets_back (replicate (at - 1 - from) space) (space ∷ []) line from (at - 1) b)
 
 pub put-column : (line : List ℕ) (from w : ℕ) (z : ℤ) → length (numeral z) ≤ w →
     sets line from (column w z) ≡ sets (sets line (from + w - length (numeral z)) (numeral z)) from (replicate (from + w - length (numeral z) - from) space)

@@ -12,7 +12,6 @@ use lib.ListN.{length, set, length-set}
 use lib.Seq.{sets}
 use Rattle.word.specs.Choice.{◌and◌}
 use Rattle.std.specs.Prelude.{is_none}
-use Rattle.number.specs.Number.{number_in}
 use Rattle.number.specs.Promises.{found}
 use Rattle.player.specs.Samples.{words, word_in, is_number, are_numbers, is_tick}
 use Rattle.player.specs.Promises.{Word}
@@ -46,23 +45,6 @@ counted-all line rest count inputs i e =
     let l : length (words line) ≡ count = omega (arith, i.counted) in
     rw (n, l) (and-true (eqb count inputs))
 
-module _ (line rest word behind : List ℕ) (count : ℕ) (i : Counting line rest count) (w : Word rest word behind) where
-  pub counted-other : (inputs : ℕ) → is_none (found (number_in word)) ≡ true → false ≡ is_tick inputs (words line)
-  counted-other inputs e =
-      let o : is_number (number_in word) ≡ false = number_read (number_in word) ∙ ap not e in
-      let n : are_numbers (words line) ≡ false = i.numbers ∙ ap are_numbers w.words-are ∙ rw o in
-      rw n (and-false (eqb (length (words line)) inputs))
-
-  pub counted-one : is_none (found (number_in word)) ≡ false → Counting line behind (count + 1)
-  counted-one e =
-      let o : is_number (number_in word) ≡ true = number_read (number_in word) ∙ ap not e in
-      let k : length (words rest) ≡ suc (length (words behind)) = ap length w.words-are in
-      record {
-        few = omega (arith, i.few, w.shorter);
-        counted = omega (arith, i.counted);
-        numbers = i.numbers ∙ ap are_numbers w.words-are ∙ rw o;
-      }
-
 -- the numbers of the rest are stored from `next` on, those before it already
 pub record Storing (line samples₀ : List ℕ) (from : ℕ) (samples rest : List ℕ) (next : ℕ) : Type 0 where
   pub long : length samples ≡ length samples₀
@@ -73,9 +55,6 @@ pub storing_starts : (line samples : List ℕ) (from : ℕ) → from + length (w
 storing_starts line samples from h = record { long = refl; room = h; done = refl }
 
 module _ (line samples₀ : List ℕ) (from : ℕ) (samples rest : List ℕ) (next : ℕ) (i : Storing line samples₀ from samples rest next) where
-  pub stored_all : words rest ≡ [] → samples ≡ sets samples₀ from (map word_in (words line))
-  stored_all e = ap (λ (ws : List (List ℕ)). sets samples next (map word_in ws)) (sym e) ∙ i.done
-
   module _ (word behind : List ℕ) (w : Word rest word behind) where
     more : length (words rest) ≡ suc (length (words behind))
     more = ap length w.words-are

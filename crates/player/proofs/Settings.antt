@@ -16,9 +16,6 @@ pub no_slot : (line : List ℕ) → words line ≡ [] → None ≡ kind_of (cont
 no_slot line e = rw e
 
 module _ (line first rest : List ℕ) (a : Word line first rest) where
-  pub no_value : words rest ≡ [] → None ≡ kind_of (control_said (words line))
-  no_value e = rw (a.words-are, e)
-
   module _ (second behind : List ℕ) (b : Word rest second behind) (r : StdOption (Bor (List ℕ) × Bor (List ℕ))) (f : FirstWord behind r) where
     pub third-word : is_some r ≡ true → None ≡ kind_of (control_said (words line))
     third-word e = go r f e

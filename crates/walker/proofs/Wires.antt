@@ -13,7 +13,7 @@ use Rattle.arity.specs.Tree.{ins, outs, size}
 use Rattle.arity.specs.Tree.Tree.{join}
 use Rattle.arity.specs.Table.{nodes, kind_at, first_at, second_at, composition_of, tree}
 use Rattle.arity.specs.Promise.{Node}
-use Rattle.arity.proofs.Times.{times_whole, times_least}
+use Rattle.arity.proofs.Times.{times_whole}
 use Rattle.signal.specs.Signal.{copies, sums}
 use Rattle.arity.specs.Ready.{Promising}
 use Rattle.walker.specs.Ready.{base, Joins, left_tree, right_tree, first_child, second_child, FirstGiven, SecondGiven, Finished}
@@ -76,14 +76,8 @@ module _ {table : List ℕ} {i : ℕ} (promise : Promising table) (j : Joins tab
   pub left_few_inputs : ins (left_tree table i) ≤ 32
   left_few_inputs = (promise.node (first_at table i) left_in).inputs
 
-  pub left_few_outputs : outs (left_tree table i) ≤ 32
-  left_few_outputs = (promise.node (first_at table i) left_in).outputs
-
   pub right_few_inputs : ins (right_tree table i) ≤ 32
   right_few_inputs = (promise.node (second_at table i) right_in).inputs
-
-  pub merge-room : kind_at table i ≡ 10 → ins (right_tree table i) ≤ outs (left_tree table i)
-  merge-room e = times_least _ _ (node.merge e)
 
   pub recursion-room : kind_at table i ≡ 11 → outs (right_tree table i) + ins (tree table i) ≤ 32
   unfolding ins

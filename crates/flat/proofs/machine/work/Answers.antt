@@ -1,9 +1,9 @@
 -- `flat::machine::work` meets its contract, key by key.
-use mathlib.Core.Path.{refl, ◌∙◌}
+use mathlib.Core.Path.{refl}
 use native.Mathlib.Omega.{arith}
 use Rattle.word.specs.Operation.{operands}
 use Rattle.flat.specs.Flat.{worked}
-use Rattle.flat.proofs.Working.{code_is, untold, op_there, third_there, two-work, three-work, control_there, delay_there, cell_there, write_there, clock_there}
+use Rattle.flat.proofs.Working.{code_is, op_there, third_there, two-work, three-work, control_there, delay_there, cell_there, write_there, clock_there}
 use Rattle.flat.proofs.machine.work.Goals as goal
 
 pub bounds-controls-a : goal.bounds-controls-a
@@ -65,66 +65,65 @@ operated-requires-in-Select c = op_there c.requires c.in-Select.is refl
 pub bounds-registers-a-in-Skip : goal.bounds-registers-a-in-Skip
 bounds-registers-a-in-Skip c = omega (arith, clock_there c.requires c.in-Skip.is, c.index-a.ensures)
 
-pub returns-in-Number : goal.returns-in-Number
+pub returns-in-Number-clause-cells_value : goal.returns-in-Number-clause-cells_value
 unfolding worked
-returns-in-Number c = let k = code_is c.requires c.in-Number.is in record { cells_value = rw (k, c.gives.ensures.0, c.gives.ensures.1); told_after = untold c.requires k refl }
+returns-in-Number-clause-cells_value c = let k = code_is c.requires c.in-Number.is in rw (k, c.gives.ensures.0, c.gives.ensures.1)
 
-pub returns-in-Control : goal.returns-in-Control
+pub returns-in-Control-clause-cells_value : goal.returns-in-Control-clause-cells_value
 unfolding worked
-returns-in-Control c = let k = code_is c.requires c.in-Control.is in record { cells_value = rw (k, c.gives-in-Control.ensures.0, c.gives-in-Control.ensures.1, c.index-a.ensures); told_after = untold c.requires k refl }
+returns-in-Control-clause-cells_value c = let k = code_is c.requires c.in-Control.is in rw (k, c.gives-in-Control.ensures.0, c.gives-in-Control.ensures.1, c.index-a.ensures)
 
-pub returns-in-Delay : goal.returns-in-Delay
+pub returns-in-Delay-clause-cells_value : goal.returns-in-Delay-clause-cells_value
 unfolding worked
-returns-in-Delay c =
-    let k = code_is c.requires c.in-Delay.is in record { cells_value = rw (k, c.gives-in-Delay.ensures.0, c.gives-in-Delay.ensures.1, c.delay_at-delayed.ensures.0, c.delay_at-delayed.ensures.1, c.index-a.ensures, c.index-b.ensures, c.index.ensures, c.index-in-Delay.ensures); told_after = c.tell.ensures ∙ rw (k, c.delay_at-delayed.ensures.2, c.index-b.ensures, c.index-in-Delay.ensures) }
+returns-in-Delay-clause-cells_value c = let k = code_is c.requires c.in-Delay.is in rw (k, c.gives-in-Delay.ensures.0, c.gives-in-Delay.ensures.1, c.delay_at-delayed.ensures.0, c.delay_at-delayed.ensures.1, c.index-a.ensures, c.index-b.ensures, c.index.ensures, c.index-in-Delay.ensures)
 
-pub returns-in-Read : goal.returns-in-Read
+pub returns-in-Read-clause-cells_value : goal.returns-in-Read-clause-cells_value
 unfolding worked
-returns-in-Read c = let k = code_is c.requires c.in-Read.is in record { cells_value = rw (k, c.gives-in-Read.ensures.0, c.gives-in-Read.ensures.1, c.index-a.ensures); told_after = untold c.requires k refl }
+returns-in-Read-clause-cells_value c = let k = code_is c.requires c.in-Read.is in rw (k, c.gives-in-Read.ensures.0, c.gives-in-Read.ensures.1, c.index-a.ensures)
 
-pub returns-in-Write : goal.returns-in-Write
+pub returns-in-Write-clause-cells_value : goal.returns-in-Write-clause-cells_value
 unfolding worked
-returns-in-Write c = let k = code_is c.requires c.in-Write.is in record { cells_value = rw (k, c.gives-in-Write.ensures.0, c.gives-in-Write.ensures.1, c.index-a.ensures, c.index-b.ensures); told_after = untold c.requires k refl }
+returns-in-Write-clause-cells_value c = let k = code_is c.requires c.in-Write.is in rw (k, c.gives-in-Write.ensures.0, c.gives-in-Write.ensures.1, c.index-a.ensures, c.index-b.ensures)
 
 pub returns-in-Add-clause-cells_value : goal.returns-in-Add-clause-cells_value
 unfolding operands
-returns-in-Add-clause-cells_value c = (two-work c.requires c.in-Add.is refl {told = c.args.told.now} refl c.operated.ensures).0
+returns-in-Add-clause-cells_value c = two-work c.requires c.in-Add.is refl refl c.operated.ensures
 
 pub returns-in-Subtract-clause-cells_value : goal.returns-in-Subtract-clause-cells_value
 unfolding operands
-returns-in-Subtract-clause-cells_value c = (two-work c.requires c.in-Subtract.is refl {told = c.args.told.now} refl c.operated-in-Subtract.ensures).0
+returns-in-Subtract-clause-cells_value c = two-work c.requires c.in-Subtract.is refl refl c.operated-in-Subtract.ensures
 
 pub returns-in-Multiply-clause-cells_value : goal.returns-in-Multiply-clause-cells_value
 unfolding operands
-returns-in-Multiply-clause-cells_value c = (two-work c.requires c.in-Multiply.is refl {told = c.args.told.now} refl c.operated-in-Multiply.ensures).0
+returns-in-Multiply-clause-cells_value c = two-work c.requires c.in-Multiply.is refl refl c.operated-in-Multiply.ensures
 
 pub returns-in-Quotient-clause-cells_value : goal.returns-in-Quotient-clause-cells_value
 unfolding operands
-returns-in-Quotient-clause-cells_value c = (two-work c.requires c.in-Quotient.is refl {told = c.args.told.now} refl c.operated-in-Quotient.ensures).0
+returns-in-Quotient-clause-cells_value c = two-work c.requires c.in-Quotient.is refl refl c.operated-in-Quotient.ensures
 
 pub returns-in-Remainder-clause-cells_value : goal.returns-in-Remainder-clause-cells_value
 unfolding operands
-returns-in-Remainder-clause-cells_value c = (two-work c.requires c.in-Remainder.is refl {told = c.args.told.now} refl c.operated-in-Remainder.ensures).0
+returns-in-Remainder-clause-cells_value c = two-work c.requires c.in-Remainder.is refl refl c.operated-in-Remainder.ensures
 
 pub returns-in-Less-clause-cells_value : goal.returns-in-Less-clause-cells_value
 unfolding operands
-returns-in-Less-clause-cells_value c = (two-work c.requires c.in-Less.is refl {told = c.args.told.now} refl c.operated-in-Less.ensures).0
+returns-in-Less-clause-cells_value c = two-work c.requires c.in-Less.is refl refl c.operated-in-Less.ensures
 
 pub returns-in-Equal-clause-cells_value : goal.returns-in-Equal-clause-cells_value
 unfolding operands
-returns-in-Equal-clause-cells_value c = (two-work c.requires c.in-Equal.is refl {told = c.args.told.now} refl c.operated-in-Equal.ensures).0
+returns-in-Equal-clause-cells_value c = two-work c.requires c.in-Equal.is refl refl c.operated-in-Equal.ensures
 
 pub returns-in-Absolute-clause-cells_value : goal.returns-in-Absolute-clause-cells_value
 unfolding operands
-returns-in-Absolute-clause-cells_value c = (two-work c.requires c.in-Absolute.is refl {told = c.args.told.now} refl c.operated-in-Absolute.ensures).0
+returns-in-Absolute-clause-cells_value c = two-work c.requires c.in-Absolute.is refl refl c.operated-in-Absolute.ensures
 
 pub returns-in-Negate-clause-cells_value : goal.returns-in-Negate-clause-cells_value
 unfolding operands
-returns-in-Negate-clause-cells_value c = (two-work c.requires c.in-Negate.is refl {told = c.args.told.now} refl c.operated-in-Negate.ensures).0
+returns-in-Negate-clause-cells_value c = two-work c.requires c.in-Negate.is refl refl c.operated-in-Negate.ensures
 
 pub returns-in-Select-clause-cells_value : goal.returns-in-Select-clause-cells_value
-returns-in-Select-clause-cells_value c = (three-work c.requires c.in-Select.is refl {told = c.args.told.now} (rw c.index-in-Select.ensures) c.operated-in-Select.ensures).0
+returns-in-Select-clause-cells_value c = three-work c.requires c.in-Select.is refl (rw c.index-in-Select.ensures) c.operated-in-Select.ensures
 
-pub returns-in-Skip : goal.returns-in-Skip
+pub returns-in-Skip-clause-cells_value : goal.returns-in-Skip-clause-cells_value
 unfolding worked
-returns-in-Skip c = let k = code_is c.requires c.in-Skip.is in record { cells_value = rw (k, c.skips.ensures.0, c.skips.ensures.1, c.index-a.ensures, c.index-b.ensures); told_after = untold c.requires k refl }
+returns-in-Skip-clause-cells_value c = let k = code_is c.requires c.in-Skip.is in rw (k, c.skips.ensures.0, c.skips.ensures.1, c.index-a.ensures, c.index-b.ensures)
