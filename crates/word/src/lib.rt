@@ -29,7 +29,7 @@ pub fn subtract(a: u32, b: u32) -> u32
 pub fn multiply(a: u32, b: u32) -> u32
     ensures { result ≡ multiply_of a b }
 {
-    a.wrapping_mul(b)
+    (a as u64 * b as u64 % 4294967296) as u32
 }
 
 pub fn negate(a: u32) -> u32
@@ -78,6 +78,7 @@ pub fn less(a: u32, b: u32) -> u32
     bit(a.wrapping_add(HALF) < b.wrapping_add(HALF))
 }
 
+#[tactic(auto, unfolding(crate::specs::Operation::equal))]
 pub fn equal(a: u32, b: u32) -> u32
     ensures { result ≡ equal_of a b }
 {
@@ -134,21 +135,10 @@ impl Operation {
     }
 
     // How many inputs it has.
-    #[tactic(auto, unfolding(crate::specs::Operation::operands))]
     pub fn operands(self) -> u32
         ensures { result ≡ operands_of (number_of self) }
     {
-        match self {
-            Operation::Add
-            | Operation::Subtract
-            | Operation::Multiply
-            | Operation::Quotient
-            | Operation::Remainder
-            | Operation::Less
-            | Operation::Equal => 2,
-            Operation::Absolute | Operation::Negate => 1,
-            Operation::Select => 3,
-        }
+        operands(self.number())
     }
 
     // Its value; one with fewer inputs does not read the others.
@@ -181,14 +171,18 @@ pub fn operate(op: u32, a: u32, b: u32, c: u32) -> u32
     }
 }
 
+// How many inputs an operation has, by its number; there is no operation 0.
+const OPERANDS: [u32; 11] = [0, 2, 2, 2, 2, 2, 2, 2, 1, 1, 3];
+
 // The inputs of the operation of the number `op`; 0 where there is no such operation.
 pub fn operands(op: u32) -> u32
     ensures { result ≡ operands_of op }
 {
-    match Operation::numbered(op) {
-        Some(operation) => operation.operands(),
-        None => 0,
+    let at = op as usize;
+    if at < OPERANDS.len() {
+        return OPERANDS[at];
     }
+    0
 }
 
 // Is a clock of this value a demand?
