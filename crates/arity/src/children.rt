@@ -49,8 +49,8 @@ pub fn mark(kind: Kind, marks: &mut [bool; NODES], left: usize, right: usize)
 
 // The first of n nodes but the last that is not marked.
 pub fn find_loose(marks: &[bool; NODES], n: usize) -> Option<usize>
-    requires { (1 ≤ n) × (n ≤ most_nodes) }
+    requires { n ≤ most_nodes }
     ensures { result ≡ position (λ mark. not mark) (take (n - 1) marks.now) }
 {
-    marks[..n - 1].iter().position(|mark| !*mark)
+    marks[..n.saturating_sub(1)].iter().position(|mark| !*mark)
 }

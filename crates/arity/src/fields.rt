@@ -34,6 +34,10 @@ impl Kind {
     pub fn first_in_range(self, first: u32) -> bool
         ensures { result ≡ first_in_range (number_of self) first }
     {
+        // first, so that a check tells kinds with children apart by one comparison
+        if !self.is_primitive() {
+            return true;
+        }
         match self {
             Kind::Control => first <= LAST_SLOT,
             Kind::Operation => 0 < word::operands(first),
