@@ -128,6 +128,13 @@ module _ (i : ℕ) (l : List ℕ) (j : ℕ) where
       go none q = let x : Some w ≡ None = e ∙ ap found q in absurd (cc)
       go (some z) q = let x : Some w ≡ Some (low z) = e ∙ ap found q in let s : low z ≡ w = cc in (z, (refl, (s, (read-column (column_of j l) z q).1)))
 
+  pub column_malformed : None ≡ found (number_in (column_of j l)) → column_refusal i l j ≡ some (refused_at 1 i)
+  column_malformed e = go (number_in (column_of j l)) refl
+    where
+      go : (o : Option ℤ) → number_in (column_of j l) ≡ o → number_refusal i j o ≡ some (refused_at 1 i)
+      go none q = refl
+      go (some z) q = let x : None ≡ Some (low z) = e ∙ ap found q in absurd (cc)
+
   pub column_wrong_node : (w : ℕ) → Some w ≡ found (number_in (column_of j l)) → j ≡ 0 → (w ≡ i → ⊥) → column_refusal i l j ≡ some (refused_at 2 i)
   column_wrong_node w e z n =
       let g = number_word w e in
@@ -165,6 +172,9 @@ module _ (bytes : List ℕ) (line column : ℕ) (p : Columns bytes line column) 
 
   pub column-refused : (a : Answer) → column < 4 → column_refusal line bytes column ≡ some a → some a ≡ line_refusal line (first_line bytes)
   column-refused a h e = sym (p.left ∙ next-column h ∙ rw e)
+
+  pub columns_right : 4 ≤ column → none ≡ line_refusal line (first_line bytes)
+  columns_right h = let z : 4 - column ≡ 0 = omega arith in sym (p.left ∙ ap (columns_left line bytes column) z)
 
 pub not_whole : (bytes : List ℕ) (line : ℕ) → line < 512 → whole (first_line bytes) ≡ false → some (refused_at 1 line) ≡ line_refusal line (first_line bytes)
 unfolding line_refusal

@@ -2,11 +2,10 @@
 ghost use Rattle.std.specs.Prelude.{◌≡◌, ◌*◌, ◌+◌, ◌≤◌, ◌<◌, ◌++◌, length, drop};
 ghost use Rattle.std.proofs.Math.Option.{none};
 ghost use Rattle.std.proofs.lemmas.List.Edits.{sets};
-ghost use Rattle.word.specs.Limits.{most_nodes};
 ghost use Rattle.number.specs.Number.{number_in, word_of};
-ghost use Rattle.column.specs.Line.{line_bytes, column_of, whole, lines, line_refusal, entries};
+ghost use Rattle.column.specs.Line.{line_bytes, column_of, whole, lines, entries};
 ghost use Rattle.column.specs.File.{file_refusal, table_of, reading};
-ghost use Rattle.column.specs.Promises.{FirstFeed, LinesChecked, first_line, refusal_in};
+ghost use Rattle.column.specs.Promises.{FirstFeed, LinesChecked, first_line};
 ghost use Rattle.number.specs.Promises.{found};
 ghost use Rattle.refusal.specs.Answer.{answer_of};
 ghost use Rattle.refusal.specs.Outcome.{outcome};
@@ -44,24 +43,8 @@ fn column_at(line: &[u8], j: usize) -> Option<u32>
     read_number(&line[from..end])
 }
 
-// Checks the line that begins these bytes: its length, then column after column, up to the first that is wrong.
-fn check_line(bytes: &[u8], line: u32) -> Result<(), Refusal>
-    requires { line < most_nodes }
-    ensures { refusal_in result ≡ line_refusal line (first_line bytes.now) }
-{
-    if !is_whole(bytes) {
-        return Err(Refusal::MalformedLine(line));
-    }
-    for column in 0..4 {
-        let word = column_at(bytes, column).ok_or(Refusal::MalformedLine(line))?;
-        if column == 0 && word != line {
-            return Err(Refusal::WrongNodeNumber(line));
-        }
-    }
-    Ok(())
-}
-
-// Checks line after line, up to the first that is wrong; gives how many there are.
+// Checks line after line, and in a line its length and then column after column, up to the first that is wrong; gives how
+// many lines there are.
 fn check_lines(file: &[u8]) -> Result<u32, Refusal>
     ensures { LinesChecked file.now result }
 {
@@ -69,14 +52,26 @@ fn check_lines(file: &[u8]) -> Result<u32, Refusal>
         return Err(Refusal::WrongNodeCount(0));
     }
     let mut line: u32 = 0;
-    for bytes in file.chunks(LINE_BYTES) {
-        if line == MOST_NODES {
-            return Err(Refusal::WrongNodeCount(MOST_NODES));
+    'lines: {
+        for bytes in file.chunks(LINE_BYTES) {
+            if line == MOST_NODES {
+                break 'lines Err(Refusal::WrongNodeCount(MOST_NODES));
+            }
+            if !is_whole(bytes) {
+                break 'lines Err(Refusal::MalformedLine(line));
+            }
+            for column in 0..4 {
+                let Some(word) = column_at(bytes, column) else {
+                    break 'lines Err(Refusal::MalformedLine(line));
+                };
+                if column == 0 && word != line {
+                    break 'lines Err(Refusal::WrongNodeNumber(line));
+                }
+            }
+            line += 1;
         }
-        check_line(bytes, line)?;
-        line += 1;
+        Ok(line)
     }
-    Ok(line)
 }
 
 // The word of a column's number.
