@@ -111,11 +111,13 @@ pub fn keep(cells: &mut [u32], base: usize, n: usize, a: [u32; BEAM])
     keep_list(cells, base, &a[..n]);
 }
 
-// A list, kept from `base` on.
+// A list, kept from `base` on. One by one: where walks record, `copy_from_slice` would become a call of memmove, which
+// nothing else in the archive for C needs.
 pub fn keep_list(cells: &mut [u32], base: usize, list: &[u32])
     requires { base + length list.now ≤ length cells.old }
     ensures { cells.new ≡ store base list.now cells.old }
 {
-    let end = base + list.len();
-    cells[base..end].copy_from_slice(list);
+    for i in 0..list.len() {
+        cells[base + i] = list[i];
+    }
 }
