@@ -9,7 +9,7 @@ use native.Mathlib.Omega.{arith}
 use borrow.Author.Tests.{ltb-true, lt-ltb}
 use lib.Dec.{ltb}
 use lib.ListN.{length, get_or, set, take, drop, drop_of_length-le}
-use lib.Seq.{take-suc-set, drop-cons, get_or-take, take_all}
+use lib.Seq.{take-suc, take-suc-set, drop-cons, get_or-take, take_all}
 use Rattle.word.specs.Choice.{◌and◌}
 use Rattle.word.specs.Tick.{tick, stepped}
 use Rattle.word.proofs.Lists.{first-true, second-true, both_true}
@@ -18,6 +18,9 @@ use Rattle.flat.specs.Code.{header, results_at, most_registers, instructions_of,
 use Rattle.flat.specs.Check.{all_below}
 use Rattle.flat.specs.Steps.{Checked}
 use Rattle.flat.proofs.Decoded.{code-results, results-all, below_step}
+
+pub put_one : (ρ xs : List ℕ) (i : ℕ) → i < length ρ → i < length xs → take i ρ ≡ take i xs → take (i + 1) (set ρ i (get_or xs i 0)) ≡ take (i + 1) xs
+put_one ρ xs i h g e = rw (add-one, take-suc-set ρ i (get_or xs i 0) h, e, take-suc xs i 0 g)
 
 -- registers from e on make no difference to those below
 held_below : (ρ rs : List ℕ) (e : ℕ) → all_below e rs ≡ true → held (take e ρ) rs ≡ held ρ rs

@@ -4,7 +4,7 @@ use mathlib.Core.Path.{◌≡◌, refl, sym, ap, ◌∙◌, subst}
 use mathlib.Core.Bool.{Bool, true, false, false≢true}
 use mathlib.Core.List.{List, [], ◌∷◌}
 use native.Mathlib.Omega.{arith}
-use borrow.Author.Tests.{leb-true, eqb-true, eqb-false, ltb-true, ltb-false, le-ltb}
+use borrow.Author.Tests.{leb-true, eqb-true, eqb-false, ltb-true, ltb-false, le-ltb, lt-ltb}
 use lib.Dec.{eqb, leb, ltb}
 use lib.ListN.{length, get_or, take}
 use lib.Seq.{get_or-take}
@@ -18,7 +18,7 @@ use Rattle.flat.specs.declared.keys.Key.{Key}
 use Rattle.flat.specs.declared.keys.Key.TheVariants.{Skip, Number, Control, Delay, Read, Write, Add, Subtract, Multiply, Quotient, Remainder, Less, Equal, Absolute, Negate, Select}
 use Rattle.flat.specs.Flat.{Instruction, effect, worked, worked_clips}
 use Rattle.flat.specs.Check.{unused, input_ok, instruction_ok}
-use Rattle.flat.specs.Steps.{operation_key, key_of, Workable}
+use Rattle.flat.specs.Steps.{named_key, key_of, Workable}
 use Rattle.flat.proofs.Decoded.{two, four}
 
 -- the rows of the table, by their codes
@@ -189,7 +189,7 @@ op_of Select = 10
 op_of _ = 0
 
 abbrev OpKept : ℕ → Type 0
-OpKept a = (3 ≡ code_of (operation_key a)) × (a ≡ op_of (operation_key a))
+OpKept a = (3 ≡ code_of (named_key a)) × (a ≡ op_of (named_key a))
 
 try : (a n : ℕ) → OpKept n → ((a ≡ n → ⊥) → OpKept a) → OpKept a
 try a n p q = go (eqb a n) refl
@@ -211,7 +211,7 @@ code_kept x w o = go refl w
     go : {k : ℕ} → x.code ≡ k → Row k → x.code ≡ code_of (key_of x)
     go e number = rw e
     go e control = rw e
-    go e operation = rw e (op_kept x.a (o e)).0
+    go e operation = rw (e, lt-ltb 0 (operands x.a) (o e)) (op_kept x.a (o e)).0
     go e delay = rw e
     go e read = rw e
     go e write = rw e
@@ -224,8 +224,9 @@ module _ {key : Key} {x : Instruction} {controls ρ cs : List ℕ} (w : Workable
 
   op_is : {k : Key} → key ≡ k → x.code ≡ 3 → x.a ≡ op_of k
   op_is e o =
-      let z : operation_key x.a ≡ key_of x = rw o in
-      (op_kept x.a (says_op _ _ _ _ w.ok o)).1 ∙ ap op_of (z ∙ sym w.keyed ∙ e)
+      let known = says_op _ _ _ _ w.ok o in
+      let z : named_key x.a ≡ key_of x = rw (o, lt-ltb 0 (operands x.a) known) in
+      (op_kept x.a known).1 ∙ ap op_of (z ∙ sym w.keyed ∙ e)
 
   -- an operation, of the key k
   module _ {k : Key} (e : key ≡ k) (o : code_of k ≡ 3) where

@@ -1,6 +1,7 @@
 -- What the functions inside a run ask of each other and promise; the contract of the run itself cites none of this.
-use Rattle.std.specs.Prelude.{ℕ, ◌+◌, ◌*◌, ◌≤◌, ◌<◌, ◌≡◌, true, List, ◌∷◌, ◌++◌, eqb, length, get_or, take}
+use Rattle.std.specs.Prelude.{ℕ, ◌+◌, ◌*◌, ◌≤◌, ◌<◌, ◌≡◌, true, List, ◌∷◌, ◌++◌, eqb, ltb, length, get_or, take}
 use Rattle.word.specs.Choice.{pick}
+use Rattle.word.specs.Operation.{operands}
 use Rattle.word.specs.Limits.{widest, control_count, most_instructions, most_cells, most_ticks}
 use Rattle.word.specs.Tick.{zeros}
 use Rattle.flat.specs.declared.format.Instruction.{Instruction as Listed}
@@ -27,9 +28,9 @@ pub record Checked (code : List ℕ) : Type 0 where
   pub ok : code_ok code ≡ true
   pub head : Header code
 
--- the key of the operation `op`
-abbrev pub operation_key : ℕ → Key
-operation_key op =
+-- the key that names the operation `op`
+abbrev pub named_key : ℕ → Key
+named_key op =
     pick (eqb op 1) Add
     (pick (eqb op 2) Subtract
     (pick (eqb op 3) Multiply
@@ -40,6 +41,10 @@ operation_key op =
     (pick (eqb op 8) Absolute
     (pick (eqb op 9) Negate
     (pick (eqb op 10) Select Skip)))))))))
+
+-- the key of the operation `op`: whether there is one is for the operand table to say
+abbrev pub operation_key : ℕ → Key
+operation_key op = pick (ltb 0 (operands op)) (named_key op) Skip
 
 -- what an instruction that passed the check does, its key: of an operation that one, of any other its code
 abbrev pub key_of : Instruction → Key

@@ -1,10 +1,10 @@
 // The keys of a code's instructions: what each does.
 ghost use Rattle.std.specs.Prelude.{◌≡◌, ◌+◌, ◌≤◌, length};
 ghost use Rattle.flat.specs.Code.{header, most_registers, input_count, instruction_count};
-ghost use Rattle.flat.specs.Steps.{listed, operation_key, key_of, Header, Keys};
+ghost use Rattle.flat.specs.Steps.{listed, named_key, operation_key, key_of, Header, Keys};
 
 use crate::format::{Code, HEADER, INPUTS, INSTRUCTIONS, Instruction, WIDTH, instruction_at};
-use word::{Operation, index};
+use word::{Operation, index, operands};
 
 // What an instruction does: an operation's key names it, so that the machine finds it by one jump.
 #[derive(Clone, Copy)]
@@ -27,9 +27,9 @@ pub enum Key {
     Select,
 }
 
-// The key of the operation `op`.
-fn operation_key(op: u32) -> Key
-    ensures { result ≡ operation_key op }
+// The key that names the operation `op`.
+fn named_key(op: u32) -> Key
+    ensures { result ≡ named_key op }
 {
     match Operation::numbered(op) {
         Some(Operation::Add) => Key::Add,
@@ -43,6 +43,17 @@ fn operation_key(op: u32) -> Key
         Some(Operation::Negate) => Key::Negate,
         Some(Operation::Select) => Key::Select,
         None => Key::Skip,
+    }
+}
+
+// The key of the operation `op`, where the operand table has it.
+fn operation_key(op: u32) -> Key
+    ensures { result ≡ operation_key op }
+{
+    if 0 < operands(op) {
+        named_key(op)
+    } else {
+        Key::Skip
     }
 }
 

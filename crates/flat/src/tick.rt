@@ -16,7 +16,10 @@ fn put(inputs: &[u32], registers: &mut [u32])
     requires { length inputs.now ≤ length registers.old }
     ensures { take (length inputs.now) registers.new ≡ inputs.now }
 {
-    registers[..inputs.len()].copy_from_slice(inputs);
+    // no `copy_from_slice`: its call costs more than the few inputs that a tick has
+    for i in 0..inputs.len() {
+        registers[i] = inputs[i];
+    }
 }
 
 // What the output registers hold, which the code names from `from` on.
