@@ -9,7 +9,7 @@ use crate::place::{Progress, ascending};
 use arity::circuit::Circuit;
 use arity::kinds::Kind;
 use beam::{after, joined};
-use walker::wiring::second_input;
+use walker::wiring::second_given;
 
 // Before the first side: a recursion's reads.
 pub fn put_opening(circuit: &Circuit, node: usize, p: Progress, code: &mut [u32]) -> Progress
@@ -49,7 +49,7 @@ pub fn put_middle(
             put_merges(code, q, m, b)
         }
         _ => Progress {
-            regs: second_input(circuit, node, p.regs, q.regs),
+            regs: second_given(circuit, node, p.regs, q.regs),
             ..q
         },
     }

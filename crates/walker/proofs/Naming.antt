@@ -49,7 +49,7 @@ probe-here xs a h =
 abbrev pub all_from : List ℕ → List ℕ → ℕ → Bool
 all_from table xs a = all_named (nodes table) (circuit table) (probes_of (drop a xs))
 
-all_here : (table xs : List ℕ) (a : ℕ) {b : Bool} → a + 1 < length xs → b ≡ test table (get_or xs a 0) (get_or xs (a + 1) 0) → all_from table xs a ≡ b and all_from table xs (a + 2)
+pub all_here : (table xs : List ℕ) (a : ℕ) {b : Bool} → a + 1 < length xs → b ≡ test table (get_or xs a 0) (get_or xs (a + 1) 0) → all_from table xs a ≡ b and all_from table xs (a + 2)
 all_here table xs a h e = ap (all_named (nodes table) (circuit table)) (probe-here xs a h) ∙ ap (λ (x : Bool). x and all_from table xs (a + 2)) (sym e)
 
 few-none : (l : List ℕ) → length l ≤ 1 → probes_of l ≡ []
@@ -57,7 +57,7 @@ few-none [] h = refl
 few-none (x ∷ []) h = refl
 few-none (x ∷ y ∷ l) h = absurd (omega arith)
 
-all_none : (table xs : List ℕ) (a : ℕ) → length xs ≤ a + 1 → all_from table xs a ≡ true
+pub all_none : (table xs : List ℕ) (a : ℕ) → length xs ≤ a + 1 → all_from table xs a ≡ true
 all_none table xs a h = ap (all_named (nodes table) (circuit table)) (few-none (drop a xs) (rw length-drop (omega arith)))
 
 -- they pass if each passes, and not if one does not

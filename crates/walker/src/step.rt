@@ -6,7 +6,7 @@ ghost use Rattle.arity.specs.Table.{kind_at};
 ghost use Rattle.walker.specs.Ready.{base, outs_of, Roomy, Inside, Demands, Holding, Ticked};
 ghost use Rattle.walker.specs.Probing.{Watching, Watched, ShowedBelow};
 
-use crate::wiring::{finish, first_child, first_input, second_child, second_input};
+use crate::wiring::{finished, first_child, first_given, second_child, second_given};
 use arity::circuit::Circuit;
 use arity::kinds::Kind;
 use beam::{after, fetched, keep, one};
@@ -113,13 +113,13 @@ impl<'a> Walk<'a> {
             Kind::Sequence | Kind::Parallel | Kind::Split | Kind::Merge | Kind::Recursion => {
                 let first = first_child(circuit.table(), node);
                 let second = second_child(circuit.table(), node);
-                let x = first_input(circuit, node, *ins, cells);
+                let x = first_given(circuit, node, *ins, cells);
                 let y = self.step(first, &x, cells, latest, told);
                 note(self.marks, first, y, latest);
-                let w = second_input(circuit, node, *ins, y);
+                let w = second_given(circuit, node, *ins, y);
                 let z = self.step(second, &w, cells, latest, told);
                 note(self.marks, second, z, latest);
-                finish(circuit, node, y, z, cells)
+                finished(circuit, node, y, z, cells)
             }
             Kind::Ondemand => self.demand_step(node, ins, cells, latest, told),
             _ => leaf_step(circuit, node, self.controls, ins, cells, told),

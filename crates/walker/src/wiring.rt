@@ -1,10 +1,12 @@
 // The wires of a composition: which child runs first, what each is given, and what becomes of their outputs.
 ghost use Rattle.std.specs.Prelude.{◌≡◌, length};
+ghost use Rattle.arity.specs.Ready.{Ready};
 ghost use Rattle.walker.specs.Ready.{Roomy, Joins, first_child, second_child, FirstGiven, SecondGiven, Finished};
 
 use arity::circuit::Circuit;
 use arity::fields::{first_of, kind_of, second_of};
 use arity::kinds::Kind;
+use arity::rows::SHAPE;
 use beam::{after, fetched, joined, keep, merged, repeated};
 use word::index;
 use word::limits::BEAM;
@@ -30,8 +32,8 @@ pub fn second_child(table: &[u32], node: usize) -> usize
     }
 }
 
-// What the first child is given.
-pub fn first_input(circuit: &Circuit, node: usize, ins: [u32; BEAM], cells: &[u32]) -> [u32; BEAM]
+// What the first child of a circuit's node is given.
+pub fn first_given(circuit: &Circuit, node: usize, ins: [u32; BEAM], cells: &[u32]) -> [u32; BEAM]
     requires joins { Joins circuit.now node }
     requires roomy { Roomy circuit.now (length cells.now) }
     ensures { FirstGiven circuit.now node ins cells.now result }
@@ -47,7 +49,7 @@ pub fn first_input(circuit: &Circuit, node: usize, ins: [u32; BEAM], cells: &[u3
 }
 
 // What the second child is given, where y are the outputs of the first, which a sequence hands on.
-pub fn second_input(circuit: &Circuit, node: usize, ins: [u32; BEAM], y: [u32; BEAM]) -> [u32; BEAM]
+pub fn second_given(circuit: &Circuit, node: usize, ins: [u32; BEAM], y: [u32; BEAM]) -> [u32; BEAM]
     requires { Joins circuit.now node }
     ensures { SecondGiven circuit.now node ins y result }
 {
@@ -63,7 +65,7 @@ pub fn second_input(circuit: &Circuit, node: usize, ins: [u32; BEAM], y: [u32; B
 }
 
 // The outputs of the node, where y and z are those of its children; a recursion keeps what it feeds back.
-pub fn finish(
+pub fn finished(
     circuit: &Circuit,
     node: usize,
     y: [u32; BEAM],
@@ -84,4 +86,50 @@ pub fn finish(
         }
         _ => z,
     }
+}
+
+// The same three by the table and its survey, as they were lent before there was a `Circuit`.
+pub fn first_input(
+    table: &[u32],
+    shape: &[u32; SHAPE],
+    node: usize,
+    ins: [u32; BEAM],
+    cells: &[u32],
+) -> [u32; BEAM]
+    requires ready { Ready table.now shape.now }
+    requires joins { Joins table.now node }
+    requires roomy { Roomy table.now (length cells.now) }
+    ensures { FirstGiven table.now node ins cells.now result }
+{
+    first_given(&Circuit::new(table, shape), node, ins, cells)
+}
+
+pub fn second_input(
+    table: &[u32],
+    shape: &[u32; SHAPE],
+    node: usize,
+    ins: [u32; BEAM],
+    y: [u32; BEAM],
+) -> [u32; BEAM]
+    requires ready { Ready table.now shape.now }
+    requires joins { Joins table.now node }
+    ensures { SecondGiven table.now node ins y result }
+{
+    second_given(&Circuit::new(table, shape), node, ins, y)
+}
+
+pub fn finish(
+    table: &[u32],
+    shape: &[u32; SHAPE],
+    node: usize,
+    y: [u32; BEAM],
+    z: [u32; BEAM],
+    cells: &mut [u32],
+) -> [u32; BEAM]
+    requires ready { Ready table.now shape.now }
+    requires joins { Joins table.now node }
+    requires roomy { Roomy table.now (length cells.old) }
+    ensures { Finished table.now node y z cells.old result cells.new }
+{
+    finished(&Circuit::new(table, shape), node, y, z, cells)
 }

@@ -26,7 +26,7 @@ step-note-requires-in-Sequence-clause-marks_of t c =
 pub step-returns-in-Sequence-clause-ticked : goal.step-returns-in-Sequence-clause-ticked
 step-returns-in-Sequence-clause-ticked t c =
     let j : Joins c.args.self.now.circuit.now c.args.node = joins c.requires.inside.inside c.kind.ensures.value c.in-Sequence.is in
-    join_ticked c.kind.ensures.promise j (rw c.table.ensures at c.first_child-first.ensures) (rw c.table-in-Sequence.ensures at c.second_child-second.ensures) c.first_input-x.ensures c.step-y.ensures.ticked c.second_input-w.ensures c.step-z.ensures.ticked c.finish.ensures
+    join_ticked c.kind.ensures.promise j (rw c.table.ensures at c.first_child-first.ensures) (rw c.table-in-Sequence.ensures at c.second_child-second.ensures) c.first_given-x.ensures c.step-y.ensures.ticked c.second_given-w.ensures c.step-z.ensures.ticked c.finished.ensures
 
 pub step-returns-in-Sequence-clause-by_index : goal.step-returns-in-Sequence-clause-by_index
 step-returns-in-Sequence-clause-by_index t c = λ xs w.
@@ -35,7 +35,7 @@ step-returns-in-Sequence-clause-by_index t c = λ xs w.
     let w₁ = watching-kept w (c.note.auto.latest ∙ c.step-y.auto.latest) in
     let first = noted_showed p w (omega (arith, first_below p j (rw c.table.ensures at c.first_child-first.ensures), c.requires.inside.inside)) c.step-y.auto.latest c.step-y.ensures.ticked (c.step-y.ensures.by_index xs w) c.note.ensures in
     let second = noted_showed p w₁ (omega (arith, second_below p j (rw c.table-in-Sequence.ensures at c.second_child-second.ensures), c.requires.inside.inside)) c.step-z.auto.latest c.step-z.ensures.ticked (c.step-z.ensures.by_index xs w₁) c.note-in-Sequence.ensures in
-    join-below p w j (rw c.table.ensures at c.first_child-first.ensures) (rw c.table-in-Sequence.ensures at c.second_child-second.ensures) c.first_input-x.ensures c.step-y.ensures.ticked c.second_input-w.ensures first second
+    join-below p w j (rw c.table.ensures at c.first_child-first.ensures) (rw c.table-in-Sequence.ensures at c.second_child-second.ensures) c.first_given-x.ensures c.step-y.ensures.ticked c.second_given-w.ensures first second
 
 pub step-returns-in_default-clause-by_index : goal.step-returns-in_default-clause-by_index
 step-returns-in_default-clause-by_index t c = λ xs w. leaf-below c.kind.ensures.promise w refl c.requires.inside.inside (search rules)

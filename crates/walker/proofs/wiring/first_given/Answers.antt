@@ -1,10 +1,10 @@
--- `walker::wiring::first_input` meets its contract.
+-- `walker::wiring::first_given` meets its contract.
 use mathlib.Core.Path.{sym, ◌∙◌}
 use native.Mathlib.Omega.{arith}
 use Rattle.arity.specs.declared.kinds.Kind.TheVariants.{Recursion}
 use Rattle.walker.proofs.ByKind.{same_kind}
 use Rattle.walker.proofs.Wires.{right-inputs, cells-room, right_few_inputs, first-same}
-use Rattle.walker.proofs.wiring.first_input.Goals as goal
+use Rattle.walker.proofs.wiring.first_given.Goals as goal
 
 pub fetched-requires : goal.fetched-requires
 fetched-requires c =

@@ -1,10 +1,10 @@
--- `walker::wiring::finish` meets its contract.
+-- `walker::wiring::finished` meets its contract.
 use mathlib.Core.Path.{sym, ◌∙◌}
 use native.Mathlib.Omega.{arith}
 use Rattle.arity.specs.declared.kinds.Kind.TheVariants.{Parallel, Recursion}
 use Rattle.walker.proofs.ByKind.{same_kind}
 use Rattle.walker.proofs.Wires.{left-outputs, right-inputs, right-outputs, parallel-room, cells-room, right_few_inputs, finished_parallel, finished_recursion, finished_other}
-use Rattle.walker.proofs.wiring.finish.Goals as goal
+use Rattle.walker.proofs.wiring.finished.Goals as goal
 
 pub joined-requires : goal.joined-requires
 joined-requires c =

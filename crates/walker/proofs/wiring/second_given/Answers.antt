@@ -1,8 +1,8 @@
--- `walker::wiring::second_input` meets its contract.
+-- `walker::wiring::second_given` meets its contract.
 use mathlib.Core.Path.{sym}
 use native.Mathlib.Omega.{arith}
 use Rattle.walker.proofs.Wires.{left-inputs, left-outputs, right-inputs, right-outputs, recursion-room, second-parallel, second-split, second-recursion}
-use Rattle.walker.proofs.wiring.second_input.Goals as goal
+use Rattle.walker.proofs.wiring.second_given.Goals as goal
 
 pub returns-in-Parallel : goal.returns-in-Parallel
 returns-in-Parallel c =
