@@ -50,14 +50,14 @@ fn worked(samples: Samples) -> u64
     samples.clipped as u64 * REPORT + samples.count as u64
 }
 
-// The answer of a walk or a run.
+// The answer of a walk, with probes or without.
 fn reported(answer: Result<Samples, Refusal>) -> u64
     requires { report_of (answer_of answer) ≤ most_ticks }
     ensures { result ≡ encoded (answer_of answer) }
 {
     match answer {
         Ok(samples) => worked(samples),
-        Err(refusal) => refused(refusal),
+        Err(wrong) => refused(wrong),
     }
 }
 
@@ -185,7 +185,10 @@ pub extern "C" fn circuit_run(
     ensures cells { cells.new ≡ (ran code.now ticks inputs.now controls.now cells.old outputs.old).cells }
     ensures outputs { outputs.new ≡ (ran code.now ticks inputs.now controls.now cells.old outputs.old).outputs }
 {
-    reported(flat::run(code, ticks, inputs, controls, cells, outputs))
+    match flat::run(code, ticks, inputs, controls, cells, outputs) {
+        Ok(ran) => worked(ran),
+        Err(why) => refused(why),
+    }
 }
 
 // The report in the answer of a walk or a run: in how many ticks a delay was clipped; 0 in any other answer.

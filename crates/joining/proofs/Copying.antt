@@ -28,7 +28,7 @@ sets_append : (xs ys c : List ℕ) (a : ℕ) → sets (sets c a xs) (a + length 
 sets_append [] ys c a = rw add-zero
 sets_append (x ∷ xs) ys c a = let e : a + suc (length xs) ≡ suc a + length xs = omega arith in rw e (sets_append xs ys (set c a x) (suc a))
 
-not_low : (k : ℕ) → not (leb k 6) ≡ leb 7 k
+pub not_low : (k : ℕ) → not (leb k 6) ≡ leb 7 k
 not_low k = go (dec_le k 6)
   where
     go : Dec (k ≤ 6) → not (leb k 6) ≡ leb 7 k
@@ -58,9 +58,9 @@ module _ {t : List ℕ} {at n : ℕ} {out : List ℕ} (a : IsAccepted t) (s : Sp
         absurd (false≢true (sym q ∙ rw (e, le-leb 1 (kind_at t i) l, le-leb (kind_at t i) 12 m)))
 
     module _ {k : ℕ} (e : k ≡ kind_at t i) where
-      pub first_fits : {low : Bool} → low ≡ leb k 6 → not low ≡ true → n + first_at t i < 2 ^ 32
+      pub first_fits : {child : Bool} → child ≡ leb 7 k → child ≡ true → n + first_at t i < 2 ^ 32
       first_fits q u =
-          let l : leb 7 (kind_at t i) ≡ true = sym (not_low (kind_at t i)) ∙ ap not (ap (λ (x : ℕ). leb x 6) (sym e) ∙ sym q) ∙ u in
+          let l : leb 7 (kind_at t i) ≡ true = ap (leb 7) (sym e) ∙ sym q ∙ u in
           omega (arith, (((formed t a).children i h).first (leb-true 7 (kind_at t i) l)).lower, (formed t a).most, s.near)
 
       pub second_fits : {both : Bool} → both ≡ two_children k → both ≡ true → n + second_at t i < 2 ^ 32
@@ -81,10 +81,10 @@ module _ {t : List ℕ} {at n : ℕ} {out : List ℕ} (a : IsAccepted t) (s : Sp
         ∙ ap {B = List ℕ} (λ l. first_at t i ∷ l)
         (ap (λ (k : ℕ). drop k t) e ∙ drop-cons t (3 * i + 2) 0 (omega arith) ∙ ap {B = List ℕ} (λ l. second_at t i ∷ l) (ap (λ (k : ℕ). drop k t) f)))
 
-    pub going_on : {k j f s x y : ℕ} {low both : Bool} {next : List ℕ} → k ≡ kind_at t i → j ≡ kind_at t i → f ≡ first_at t i → s ≡ second_at t i
-        → low ≡ leb j 6 → both ≡ two_children j → x ≡ pick (not low) (n + f) f → y ≡ pick both (n + s) s → next ≡ sets now (3 * (at + i)) (k ∷ x ∷ y ∷ [])
+    pub going_on : {k j f s x y : ℕ} {child both : Bool} {next : List ℕ} → k ≡ kind_at t i → j ≡ kind_at t i → f ≡ first_at t i → s ≡ second_at t i
+        → child ≡ leb 7 j → both ≡ two_children j → x ≡ pick child (n + f) f → y ≡ pick both (n + s) s → next ≡ sets now (3 * (at + i)) (k ∷ x ∷ y ∷ [])
         → Going t at n out (i + 1) next
-    going_on {k} {j} {f} {s} {x} {y} {low} {both} {next} c b u v z w d e p =
+    going_on {k} {j} {f} {s} {x} {y} {child} {both} {next} c b u v z w d e p =
         record {
           same = ap length p ∙ length-sets now (3 * (at + i)) (k ∷ x ∷ y ∷ []) ∙ g.same;
           rest =
@@ -96,7 +96,7 @@ module _ {t : List ℕ} {at n : ℕ} {out : List ℕ} (a : IsAccepted t) (s : Sp
         }
       where
         shown : moved n (drop (3 * i) t) ≡ (k ∷ x ∷ y ∷ []) ++ moved n (drop (3 * (i + 1)) t)
-        shown = ap (moved n) row ∙ (unfold moved in rw (d, e, z, w, not_low j, b, u, v, c))
+        shown = ap (moved n) row ∙ (unfold moved in rw (d, e, z, w, b, u, v, c))
 
 -- the joined table from its three parts
 module _ (t u out : List ℕ) (j : Joinable t u) (long : length t + length u + 3 ≤ length out) where

@@ -1,9 +1,10 @@
 // Tables in their places in a larger one.
-ghost use Rattle.std.specs.Prelude.{◌≡◌, true, [], ◌∷◌, ◌+◌, ◌*◌, ◌<◌, ◌≤◌, ◌^◌, length};
+ghost use Rattle.std.specs.Prelude.{◌≡◌, true, [], ◌∷◌, ◌+◌, ◌*◌, ◌<◌, ◌≤◌, ◌^◌, length, leb};
 ghost use Rattle.std.proofs.lemmas.List.Edits.{sets};
 ghost use Rattle.word.specs.Choice.{pick};
 ghost use Rattle.word.specs.Limits.{most_nodes};
-ghost use Rattle.arity.specs.Check.{IsAccepted};
+ghost use Rattle.arity.specs.Check.{two_children, IsAccepted};
+ghost use Rattle.arity.specs.Kinds.{number_of};
 ghost use Rattle.drawing.specs.Numbering.{moved};
 ghost use Rattle.drawing.specs.Numbering.{joined as joined_table};
 ghost use Rattle.drawing.specs.Laws.{Joinable};
@@ -11,6 +12,21 @@ ghost use Rattle.joining.specs.Copy.{Space};
 
 use arity::fields::{first_of, kind_of, second_of};
 use arity::kinds::Kind;
+
+// Whether the first field of a node of this kind is a child.
+#[tactic(auto, using(crate::proofs::Copying::not_low))]
+fn has_child(kind: Kind) -> bool
+    ensures { result ≡ leb 7 (number_of kind) }
+{
+    !kind.is_primitive()
+}
+
+// Whether a node of this kind has a left and a right child.
+fn two_children(kind: Kind) -> bool
+    ensures { result ≡ two_children (number_of kind) }
+{
+    kind.is_composition()
+}
 
 // A field of a node, moved on by n where it is a child.
 fn moved_field(child: bool, field: u32, n: u32) -> u32
@@ -37,8 +53,8 @@ fn put_table(table: &[u32], at: usize, n: u32, out: &mut [u32])
     for i in 0..table.len() / 3 {
         let number = kind_of(table, i);
         let kind = Kind::numbered(number).unwrap();
-        let first = moved_field(!kind.is_primitive(), first_of(table, i), n);
-        let second = moved_field(kind.is_composition(), second_of(table, i), n);
+        let first = moved_field(has_child(kind), first_of(table, i), n);
+        let second = moved_field(two_children(kind), second_of(table, i), n);
         put_node(out, at + i, number, first, second);
     }
 }

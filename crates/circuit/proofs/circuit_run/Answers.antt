@@ -2,5 +2,5 @@
 use Rattle.circuit.proofs.Reports.{few-answer, ran-few}
 use Rattle.circuit.proofs.circuit_run.Goals as goal
 
-pub reported-requires : goal.reported-requires
-reported-requires c = few-answer _ c.run.ensures (ran-few _ _ _ _ _ _)
+pub worked-requires : goal.worked-requires
+worked-requires c = rw c.in-Ok.is at (few-answer _ c.run.ensures (ran-few _ _ _ _ _ _))

@@ -16,13 +16,13 @@ kind : (c : After-unwrap-kind) → number_of c.unwrap-kind.result ≡ kind_at c.
 kind c = MatchOption-at_some _ _ _ c.unwrap-kind.ensures c.numbered.ensures ∙ c.kind_of-number.ensures
 
 pub moved_field-first-requires : goal.moved_field-first-requires
-moved_field-first-requires c = λ e. omega (arith, c.first_of.ensures, first_fits c.requires.accepted c.requires.space c.loop-i.invariant c.loop-i-test.true (kind (goal.at.moved_field-first-requires c).After-unwrap-kind) c.is_primitive.ensures e)
+moved_field-first-requires c = λ e. omega (arith, c.first_of.ensures, first_fits c.requires.accepted c.requires.space c.loop-i.invariant c.loop-i-test.true (kind (goal.at.moved_field-first-requires c).After-unwrap-kind) c.has_child.ensures e)
 
 pub moved_field-second-requires : goal.moved_field-second-requires
-moved_field-second-requires c = λ e. omega (arith, c.second_of.ensures, second_fits c.requires.accepted c.requires.space c.loop-i.invariant c.loop-i-test.true (kind (goal.at.moved_field-second-requires c).After-unwrap-kind) c.is_composition.ensures e)
+moved_field-second-requires c = λ e. omega (arith, c.second_of.ensures, second_fits c.requires.accepted c.requires.space c.loop-i.invariant c.loop-i-test.true (kind (goal.at.moved_field-second-requires c).After-unwrap-kind) c.two_children.ensures e)
 
 pub loop-i-preserved : goal.loop-i-preserved
-loop-i-preserved c = going_on c.requires.accepted c.requires.space c.loop-i.invariant c.loop-i-test.true c.kind_of-number.ensures (kind (goal.at.loop-i-preserved c).After-unwrap-kind) c.first_of.ensures c.second_of.ensures c.is_primitive.ensures c.is_composition.ensures c.moved_field-first.ensures c.moved_field-second.ensures c.put_node.ensures
+loop-i-preserved c = going_on c.requires.accepted c.requires.space c.loop-i.invariant c.loop-i-test.true c.kind_of-number.ensures (kind (goal.at.loop-i-preserved c).After-unwrap-kind) c.first_of.ensures c.second_of.ensures c.has_child.ensures c.two_children.ensures c.moved_field-first.ensures c.moved_field-second.ensures c.put_node.ensures
 
 pub returns : goal.returns
 returns c = going_ends c.requires.accepted c.requires.space c.loop-i.invariant c.loop-i-test.false
