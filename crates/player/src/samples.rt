@@ -110,12 +110,12 @@ fn setting(line: &[u8]) -> Option<Kind>
     ensures { result ≡ kind_of (control_said (words line.now)) }
 {
     let (slot, rest) = next_word(line)?;
+    let slot = read_number(slot)?;
     let (value, rest) = next_word(rest)?;
+    let value = read_number(value)?;
     if next_word(rest).is_some() {
         return None;
     }
-    let slot = read_number(slot)?;
-    let value = read_number(value)?;
     if slot > LAST_SLOT {
         return None;
     }
